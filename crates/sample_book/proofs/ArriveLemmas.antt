@@ -1,5 +1,5 @@
 -- What comes of a row that is looked up once: its cell has a row at a place, or is the last one.
-use Rattle.std.proofs.Common.{◌≡◌, ◌∙◌, ◌<◌, ◌≤◌, ◌+◌, ℕ, zero, suc, List, [], ◌∷◌, ◌++◌, Bool}
+use Rattle.std.proofs.Common.{◌≡◌, ◌≢◌, ◌∙◌, ◌<◌, ◌≤◌, ◌+◌, ℕ, zero, suc, List, [], ◌∷◌, ◌++◌, Bool}
 use Rattle.std.proofs.Common.{true, false, if◌then◌else◌}
 use Rattle.std.proofs.Common.{length, refl, ap, sym, subst, arith, take, drop, set, slice_get}
 use Rattle.std.proofs.Common.{is_some, Option, Some, None}
@@ -8,9 +8,10 @@ use Rattle.std.proofs.lemmas.List.{append-nil}
 use Rattle.cell_index.specs.declared.Cell.{Cell}
 use Rattle.sample_book.specs.declared.row.Row.{Row}
 use Rattle.sample_book.specs.declared.row.RowVerdict.{RowVerdict}
-use Rattle.sample_book.specs.declared.row.RowVerdict.TheVariants.{New}
+use Rattle.sample_book.specs.declared.row.RowVerdict.TheVariants.{New, Newer, Repeated, Superseded}
+use Rattle.sample_book.specs.declared.row.RowVerdict.TheVariants.{Conflict}
 use Rattle.sample_book.specs.declared.stored.Stored.{Stored}
-use Rattle.sample_book.specs.History.{is_put, rows_after}
+use Rattle.sample_book.specs.History.{is_put, room_after, rows_after}
 use Rattle.sample_book.specs.Puts.{IsPutInto}
 use Rattle.sample_book.specs.Rows.{MayPutAs, cell_of, current_rows, same_cell, verdict_of}
 use Rattle.cell_index.specs.Cells.{cell_eq}
@@ -20,7 +21,8 @@ use Rattle.sample_book.specs.Standing.{IsInStep, MOST_CELLS, row_stored, rows_st
 use Rattle.name_numbers.proofs.FirstPlaces.{any-position, first, position-first}
 use Rattle.sample_book.proofs.PutLemmas.{newer_on, placed_settled}
 use Rattle.sample_book.proofs.StandingLemmas.{RoomMade, kept_at, none_found, none_kept, put_apart}
-use Rattle.sample_book.proofs.StandingLemmas.{put_behind, put_current, room_made, row_at, settle_at}
+use Rattle.sample_book.proofs.StandingLemmas.{put_behind, put_current, room_behind, room_made}
+use Rattle.sample_book.proofs.StandingLemmas.{row_at, settle_at}
 
 -- a row comes where this one is kept
 pub record Renewed (cells : List Cell) (stored : List Stored) (row kept : Row)
@@ -65,7 +67,7 @@ renewed cells stored row place cell what kept apart there e h k =
       distinct = λ is. put_apart rows _ row (current is);
     }
 
--- a row comes whose cell is the last, without a row
+-- a row comes whose cell is the first without a row
 pub record Appended (cells : List Cell) (stored : List Stored) (row : Row) : Type 0 where
   pub new : verdict_of (rows_stored cells stored) row ≡ New
   pub taken : rows_stored cells
@@ -75,18 +77,21 @@ pub record Appended (cells : List Cell) (stored : List Stored) (row : Row) : Typ
       (rows_stored cells (stored ++ record { revision = row.revision; amount = row.amount } ∷ []))
   pub within : length stored < length cells
 
+-- a row is new whose cell has none
+pub new_there : (cells : List Cell) (stored : List Stored) (row : Row) →
+    list_any (cell_eq (cell_of row)) (take (length stored) cells) ≡ false →
+    verdict_of (rows_stored cells stored) row ≡ New
+new_there cells stored row absent = ap (λ (o : Option Row). verdict_where o row)
+    (none_found row (rows_stored cells stored) (none_kept cells stored row absent))
+
 pub appended : (cells : List Cell) (stored : List Stored) (row : Row) →
     IsDistinct same_cell (rows_stored cells stored) →
-    drop (length stored) cells ≡ cell_of row ∷ [] →
+    slice_get (drop (length stored) cells) 0 ≡ Some (cell_of row) →
     list_any (cell_eq (cell_of row)) (take (length stored) cells) ≡ false →
     Appended cells stored row
-appended cells stored row apart last absent =
+appended cells stored row apart head absent =
     let rows : List Row = rows_stored cells stored in
-    let found : find (same_cell row) rows ≡ None =
-    none_found row rows (none_kept cells stored row absent) in
-    let verdict : verdict_of rows row ≡ New = ap (λ (o : Option Row). verdict_where o row) found in
-    let head : slice_get (drop (length stored) cells) 0 ≡ Some (cell_of row) =
-    ap (λ (left : List Cell). slice_get left 0) last in
+    let verdict : verdict_of rows row ≡ New = new_there cells stored row absent in
     let may : MayPutAs (verdict_of rows row) (drop (length stored) cells) (cell_of row)
     = subst (λ (v : RowVerdict). MayPutAs v (drop (length stored) cells) (cell_of row))
     (sym verdict) head in
@@ -98,6 +103,26 @@ appended cells stored row apart last absent =
       distinct = put_apart rows _ row behind.rows;
       within = behind.within;
     }
+
+-- a row that isn't new takes no room
+pub room_kept : (verdict : RowVerdict) (room : List Cell) → verdict ≢ New
+    → room ≡ room_after verdict room
+room_kept New room other = absurd (other refl)
+room_kept (Newer kept) room other = refl
+room_kept Repeated room other = refl
+room_kept (Superseded revision) room other = refl
+room_kept (Conflict kept) room other = refl
+
+-- a row that is new takes the first place
+pub room_taken : (verdict : RowVerdict) (room room' : List Cell) (cell : Cell)
+    → MayPutAs verdict room cell → room' ≡ room_after verdict room → verdict ≡ New
+    → room ≡ cell ∷ room'
+room_taken New room room' cell may is new =
+    room_behind room 0 cell may ∙ ap (λ (left : List Cell). cell ∷ left) (sym is)
+room_taken (Newer kept) room room' cell may is new = cc new
+room_taken Repeated room room' cell may is new = absurd may
+room_taken (Superseded revision) room room' cell may is new = absurd may
+room_taken (Conflict kept) room room' cell may is new = absurd may
 
 -- a row that came and was put stands behind all others, or in the place of its cell's row
 pub arrive_placed : (rows rows' : List Row) (row : Row) (verdict : RowVerdict) →

@@ -1,7 +1,7 @@
 -- Rows of a batch, each judged behind those before it.
-use Rattle.std.proofs.Common.{◌≡◌, ℕ, zero, suc, ◌+◌, ◌<◌, drop, get_or, List, [], ◌∷◌, ◌++◌, refl}
+use Rattle.std.proofs.Common.{◌≡◌, ℕ, zero, suc, ◌+◌, ◌<◌, get_or, List, [], ◌∷◌, ◌++◌, refl}
 use Rattle.std.proofs.Common.{ap, sym, ◌∙◌, take, filter, length, Option, Some, None, append_assoc}
-use Rattle.std.proofs.Common.{Bool, true, false, cond, nat_lt, arith, slice_get, subst}
+use Rattle.std.proofs.Common.{Bool, true, false, cond, nat_lt, arith, slice_get}
 use Rattle.std.specs.List.{find}
 use Rattle.std.proofs.lemmas.List.{append-nil}
 use Rattle.std.proofs.lemmas.Bool.Decides.{nat_tests}
@@ -12,14 +12,12 @@ use Rattle.sample_book.specs.declared.row.Row.{Row}
 use Rattle.sample_book.specs.declared.row.RowVerdict.{RowVerdict}
 use Rattle.sample_book.specs.declared.row.RowVerdict.TheVariants.{New, Newer, Repeated, Superseded}
 use Rattle.sample_book.specs.declared.row.RowVerdict.TheVariants.{Conflict}
-use Rattle.std.proofs.lemmas.List.{drop_more, take_more}
-use Rattle.cell_index.specs.declared.Cell.{Cell}
-use Rattle.sample_book.specs.History.{MayComeAll, MayComeAs, room_after, rows_after}
+use Rattle.std.proofs.lemmas.List.{take_more}
+use Rattle.sample_book.specs.History.{rows_after}
 use Rattle.sample_book.specs.Puts.{is_conflict, is_new, is_settled, later_of, verdicts}
-use Rattle.sample_book.specs.Rows.{cell_of, current_rows, kept_of, room_for, same_amount, same_cell}
+use Rattle.sample_book.specs.Rows.{current_rows, kept_of, same_amount, same_cell}
 use Rattle.sample_book.specs.Rows.{verdict_of, verdict_on, verdict_where}
 use Rattle.sample_book.proofs.CameLemmas.{after-current, put-current}
-use Rattle.sample_book.proofs.RoomLemmas.{room-enough}
 use Rattle.slo_terms.proofs.CurrentLemmas.{current-current, current-push, settle}
 use Rattle.sample_book.proofs.StandingLemmas.{cell_laws}
 
@@ -363,38 +361,25 @@ settled-once came row h =
         each true e = ap is_settled (same_amount-itself row)
         each false e = settled-kept kept row e h
 
--- The rows of a batch that came are judged and taken, the others may come.
-pub record AreJudged (kept came ahead : List Row) (found : List RowVerdict) (earlier : List Row)
-    (room : List Cell) : Type 0 where
+-- The rows of a batch that came are judged and taken.
+pub record AreJudged (kept came : List Row) (found : List RowVerdict)
+    (earlier : List Row) : Type 0 where
   pub so_far : found ≡ verdicts kept came
   pub taken : earlier ≡ current_rows came
-  pub may_come : MayComeAll earlier room ahead
 
-pub judged_none : (kept rows : List Row) (found : List RowVerdict) (earlier : List Row)
-    (room : List Cell) → found ≡ [] → earlier ≡ [] → room ≡ room_for [] rows →
-    AreJudged kept [] rows found earlier room
-judged_none kept rows found earlier room none empty is = record {
-  so_far = none;
-  taken = empty;
-  may_come = subst (λ earlier. MayComeAll earlier room rows) (sym empty)
-      (subst (λ room. MayComeAll [] room rows) (sym is) (room-enough [] rows));
-}
+pub judged_none : (kept : List Row) (found : List RowVerdict) (earlier : List Row) → found ≡ []
+    → earlier ≡ [] → AreJudged kept [] found earlier
+judged_none kept found earlier none empty = record { so_far = none; taken = empty }
 
 pub judged_more : (kept rows : List Row) (place : ℕ) (row : Row) (found found' : List RowVerdict)
-    (earlier earlier' : List Row) (room room' : List Cell) →
+    (earlier earlier' : List Row) →
     place < length rows → row ≡ get_or rows place row →
-    AreJudged kept (take place rows) (drop place rows) found earlier room →
+    AreJudged kept (take place rows) found earlier →
     found' ≡ found ++ verdict_of (current_rows (kept ++ take place rows)) row ∷ [] →
-    earlier' ≡ rows_after earlier row → room' ≡ room_after (verdict_of earlier row) room →
-    AreJudged kept (take (place + 1) rows) (drop (place + 1) rows) found' earlier' room'
-judged_more kept rows place row found found' earlier earlier' room room' within is so
-    pushed came roomy =
+    earlier' ≡ rows_after earlier row → AreJudged kept (take (place + 1) rows) found' earlier'
+judged_more kept rows place row found found' earlier earlier' within is so pushed came =
     let came_is : take (place + 1) rows ≡ take place rows ++ row ∷ [] =
     take_more rows place row within ∙ ap (λ (r : Row). take place rows ++ r ∷ []) (sym is) in
-    let ahead_is : drop place rows ≡ row ∷ drop (place + 1) rows = drop_more rows place row within
-    ∙ ap (λ (r : Row). r ∷ drop (place + 1) rows) (sym is) in
-    let next : MayComeAll earlier room (row ∷ drop (place + 1) rows) =
-    subst (MayComeAll earlier room) ahead_is so.may_come in
     record {
       so_far =
           pushed ∙ ap (λ vs. vs ++ verdict_of (current_rows (kept ++ take place rows)) row
@@ -402,16 +387,4 @@ judged_more kept rows place row found found' earlier earlier' room room' within 
           ∙ sym (verdicts-push kept (take place rows) row) ∙ ap (verdicts kept) (sym came_is);
       taken = came ∙ ap (λ rows. rows_after rows row) so.taken ∙ after-current (take place rows) row
           ∙ ap current_rows (sym came_is);
-      may_come = subst (λ earlier. MayComeAll earlier room' (drop (place + 1) rows)) (sym came)
-          (subst (λ room. MayComeAll (rows_after earlier row) room (drop (place + 1) rows))
-          (sym roomy) next.1);
     }
-
-pub may_come_next : (rows : List Row) (place : ℕ) (row : Row) (earlier : List Row)
-    (room : List Cell) → place < length rows → row ≡ get_or rows place row →
-    MayComeAll earlier room (drop place rows) →
-    MayComeAs (verdict_of earlier row) room (cell_of row)
-may_come_next rows place row earlier room within is may =
-    let ahead_is : drop place rows ≡ row ∷ drop (place + 1) rows = drop_more rows place row within
-    ∙ ap (λ (r : Row). r ∷ drop (place + 1) rows) (sym is) in
-    (subst (MayComeAll earlier room) ahead_is may).0

@@ -1,6 +1,6 @@
 -- A book is what came: its rows, exclusions and liftings over everything that ever came.
 use Rattle.std.proofs.Common.{◌≡◌, ℕ, List, [], ◌∷◌, ◌++◌, Bool, true, false, refl, ap, sym, ◌∙◌}
-use Rattle.std.proofs.Common.{subst, None}
+use Rattle.std.proofs.Common.{subst, None, if◌then◌else◌}
 use Rattle.sample_book.specs.declared.exclusions.Exclusion.{Exclusion}
 use Rattle.cell_index.specs.declared.Cell.{Cell}
 use Rattle.sample_book.specs.declared.row.Row.{Row}
@@ -12,8 +12,8 @@ use Rattle.sample_book.specs.Exclusions.{Change, Excluded, Lifted, exclusion_of,
 use Rattle.sample_book.specs.Exclusions.{is_excluded_in, IsLive, after_lifting}
 use Rattle.sample_book.specs.History.{Arrival, Came, Changed, Gains, Holds, empty, put, passed}
 use Rattle.sample_book.specs.History.{excluded, lifted_one, changes_in, exclusions_of, is_put}
-use Rattle.sample_book.specs.History.{rows_in}
-use Rattle.sample_book.specs.Rows.{MayPutAs, cell_of, current_rows, verdict_of}
+use Rattle.sample_book.specs.History.{rows_after, rows_in}
+use Rattle.sample_book.specs.Rows.{MayPutAs, current_rows, verdict_of}
 use Rattle.sample_book.proofs.CameLemmas.{put-current, pass-current}
 use Rattle.sample_book.proofs.ExclusionLemmas as shapes
 use Rattle.sample_book.proofs.ExclusionLemmas.{Made, is_excluded-made, shape}
@@ -93,7 +93,7 @@ pub excluded-held : (arrivals : List Arrival) (rows : List Row) (made : List (Ex
 excluded-held arrivals rows made slo minute h =
     is_excluded-made (changes_in arrivals) made slo minute (made-held arrivals rows made h)
 
-may-put : (verdict : RowVerdict) (room : List Cell) (cell : Cell) → MayPutAs verdict room cell
+pub may-put : (verdict : RowVerdict) (room : List Cell) (cell : Cell) → MayPutAs verdict room cell
     → is_put verdict ≡ true
 may-put New room cell h = refl
 may-put (Newer kept) room cell h = refl
@@ -102,15 +102,19 @@ may-put (Superseded revision) room cell h = absurd h
 may-put (Conflict kept) room cell h = absurd h
 
 -- What the book's calls do to its history.
-pub gains-put : (before after : Book) (row : Row) →
-    MayPutAs (verdict_of before.rows row) before.room (cell_of row) →
-    after.rows ≡ current_rows (before.rows ++ row ∷ []) → after.exclusions ≡ before.exclusions →
-    Gains before (Came row) after
-gains-put before after row may e f arrivals h =
+pub gains-came : (before after : Book) (row : Row) → after.rows ≡ rows_after before.rows row
+    → after.exclusions ≡ before.exclusions → Gains before (Came row) after
+gains-came before after row e f arrivals h =
     subst (λ (rows : List Row). Holds (arrivals ++ Came row ∷ []) rows after.exclusions) (sym e)
     (subst (λ (made : List (Exclusion × Bool)).
-    Holds (arrivals ++ Came row ∷ []) (current_rows (before.rows ++ row ∷ [])) made) (sym f)
-    (put row h (may-put (verdict_of before.rows row) before.room (cell_of row) may)))
+    Holds (arrivals ++ Came row ∷ []) (rows_after before.rows row) made) (sym f)
+    (by (is_put (verdict_of before.rows row)) refl))
+  where
+    by : (b : Bool) → is_put (verdict_of before.rows row) ≡ b →
+        Holds (arrivals ++ Came row ∷ [])
+        (if b then current_rows (before.rows ++ row ∷ []) else before.rows) before.exclusions
+    by true is = put row h is
+    by false is = passed row h is
 
 pub gains-excluded : (before after : Book) (value : Exclusion) →
     exclusion_of before.exclusions value.id ≡ None →

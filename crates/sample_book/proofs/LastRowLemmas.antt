@@ -1,14 +1,16 @@
 -- The last row that passes a test, and the index of the rows' cells once a row was put.
-use Rattle.std.proofs.Common.{◌≡◌, ◌≢◌, ◌∙◌, ℕ, zero, suc, ◌+◌, ◌-◌, ◌<◌, ◌≤◌, Bool, refl, ap}
-use Rattle.std.proofs.Common.{sym, arith, List, [], ◌∷◌, ◌++◌, length, length-append, map, take}
-use Rattle.std.proofs.Common.{Some}
+use Rattle.std.proofs.Common.{◌≡◌, ◌≢◌, ◌∙◌, ℕ, zero, suc, ◌+◌, ◌-◌, ◌<◌, ◌≤◌, Bool, refl, ap, true}
+use Rattle.std.proofs.Common.{false, if◌then◌else◌, sym, arith, List, [], ◌∷◌, ◌++◌, length}
+use Rattle.std.proofs.Common.{length-append, map, take, Some}
 use Rattle.std.specs.Prelude.{Result, Ok, Err, OnOk, OnErr}
+use Rattle.sample_book.specs.History.{MayComeAs, is_put, room_after, rows_after}
 use Rattle.sample_book.specs.LastRows.{IsInOrder, IsLastPlace}
 use Rattle.cell_index.specs.Chains.{IsIndexed, IsReadyFor, below, last}
 use Rattle.sample_book.specs.Puts.{IsPutInto, behind, in_place}
-use Rattle.sample_book.specs.Rows.{cell_of, room_for}
+use Rattle.sample_book.specs.Rows.{cell_of, current_rows, room_for, verdict_of}
 use Rattle.cell_index.proofs.ChainLemmas.{last-behind, last-passes, last-within, length-few}
 use Rattle.cell_index.proofs.ChainLemmas.{ready_fewer}
+use Rattle.sample_book.proofs.ArriveLemmas.{room_kept, room_taken}
 use Rattle.sample_book.proofs.StandingLemmas.{length-new_cells}
 use Rattle.cell_index.specs.declared.Cell.{Cell}
 use Rattle.sample_book.specs.declared.row.Row.{Row}
@@ -61,6 +63,50 @@ put_replaced _ _ _ _ (in_place before after kept row same) h = record {
     swapped [] after kept row e = ap (λ (cell : Cell). cell ∷ map cell_of after) e
     swapped (b ∷ before) after kept row e =
         ap (λ cells. cell_of b ∷ cells) (swapped before after kept row e)
+
+-- A row that comes where the rows get more stands behind them.
+pub came_added : (rows rows' : List Row) (row : Row) (room room' : List Cell) →
+    (is_put (verdict_of rows row) ≡ true → IsPutInto rows row (verdict_of rows row) rows') →
+    rows' ≡ rows_after rows row → room' ≡ room_after (verdict_of rows row) room →
+    MayComeAs (verdict_of rows row) room (cell_of row) → length rows < length rows' →
+    IsAdded rows rows' row room room'
+came_added rows rows' row room room' placed came roomy may longer =
+    by (is_put (verdict_of rows row)) refl
+  where
+    by : (b : Bool) → is_put (verdict_of rows row) ≡ b → IsAdded rows rows' row room room'
+    by true is = put_added rows rows' row (verdict_of rows row) room room' (cell_of row)
+        (placed is) longer
+        (room_taken (verdict_of rows row) room room' (cell_of row) (may is) roomy)
+    by false is =
+        let same : rows' ≡ rows = came
+        ∙ ap (λ (b : Bool). if b then current_rows (rows ++ row ∷ []) else rows) is in
+        absurd (omega (arith, longer, ap length same))
+
+-- else the cells and the room stay
+pub record AreStill (rows rows' : List Row) (room room' : List Cell) : Type 0 where
+  pub cells : map cell_of rows' ≡ map cell_of rows
+  pub places : room' ≡ room
+
+pub came_still : (rows rows' : List Row) (row : Row) (room room' : List Cell) →
+    (is_put (verdict_of rows row) ≡ true → IsPutInto rows row (verdict_of rows row) rows') →
+    rows' ≡ rows_after rows row → room' ≡ room_after (verdict_of rows row) room →
+    length rows' ≤ length rows → AreStill rows rows' room room'
+came_still rows rows' row room room' placed came roomy few =
+    by (is_put (verdict_of rows row)) refl
+  where
+    by : (b : Bool) → is_put (verdict_of rows row) ≡ b → AreStill rows rows' room room'
+    by true is =
+        let put = put_replaced rows rows' row (verdict_of rows row) (placed is) few in
+        record {
+          cells = put.cells;
+          places = roomy ∙ sym (room_kept (verdict_of rows row) room put.newer);
+        }
+    by false is = record {
+      cells = ap (map cell_of) (came
+          ∙ ap (λ (b : Bool). if b then current_rows (rows ++ row ∷ []) else rows) is);
+      places = roomy ∙ sym (room_kept (verdict_of rows row) room
+          (λ new. cc (is, ap is_put new)));
+    }
 
 pub in_order : (rows : List Row) (room : List Cell) (index : CellIndex) (count : ℕ)
     → length room ≤ count → IsIndexed (map cell_of rows) index → IsReadyFor count index

@@ -25,10 +25,9 @@ use Rattle.sample_book.specs.Rows.{cell_of, same_cell, current_rows, same_amount
 use Rattle.cell_index.specs.Cells.{cell_eq}
 use Rattle.sample_book.specs.Rows.{verdict_on, verdict_where, MayPutAs, new_cells}
 use Rattle.cell_index.specs.Cells.{with_cell}
-use Rattle.std.specs.List.{position}
 use Rattle.std.proofs.lemmas.List.{length-map}
 use Rattle.sample_book.specs.Standing.{row_stored, rows_stored, IsInStep, MOST_CELLS}
-use Rattle.name_numbers.proofs.FirstPlaces.{first, position-first}
+use Rattle.name_numbers.proofs.FirstPlaces.{first}
 use Rattle.slo_terms.proofs.CurrentLemmas.{settle, settle-new, adds, current-push}
 use Rattle.slo_terms.proofs.CurrentLemmas.{current-of_distinct, current-distinct}
 use Rattle.slo_terms.proofs.CurrentLemmas.{first_of_each-push}
@@ -121,20 +120,7 @@ none_found row (r ∷ rs) h =
     let parts = or_parts (same_cell row r) (list_any (same_cell row) rs) h in
     rw parts.0 (none_found row rs parts.1)
 
--- a row that may be put where one is kept is of a greater revision
-pub newer_put : (kept row : Row) (room : List Cell)
-    → MayPutAs (verdict_on kept row) room (cell_of row) → nat_lt kept.revision row.revision ≡ true
-newer_put kept row room h = by (nat_lt kept.revision row.revision)
-    (nat_lt row.revision kept.revision) (same_amount kept.amount row.amount) h
-  where
-    by : (a b d : Bool) → MayPutAs (if a then Newer kept else if b then Superseded kept.revision
-        else if d then Repeated else Conflict kept) room (cell_of row) → a ≡ true
-    by true b d h = refl
-    by false true d h = absurd h
-    by false false true h = absurd h
-    by false false false h = absurd h
-
--- and its verdict isn't that it is new
+-- a row of a cell that has one isn't new
 pub newer_verdict : (kept row : Row) → verdict_on kept row ≢ New
 newer_verdict kept row h = by (nat_lt kept.revision row.revision)
     (nat_lt row.revision kept.revision) (same_amount kept.amount row.amount) h
@@ -285,47 +271,6 @@ length-rows [] [] h = refl
 length-rows [] (s ∷ stored) h = absurd (omega arith)
 length-rows (c ∷ cells) [] h = refl
 length-rows (c ∷ cells) (s ∷ stored) h = ap suc (length-rows cells stored (omega arith))
-
-row_there : (rows : List Row) (n : ℕ) → n < length rows
-    → (row : Row) × (slice_get rows n ≡ Some row)
-row_there [] n h = absurd (omega arith)
-row_there (r ∷ rows) zero h = (r, refl)
-row_there (r ∷ rows) (suc n) h = row_there rows n (omega arith)
-
--- what may be put in the place of a kept row
-pub record PutInPlace (cells : List Cell) (stored : List Stored) (row : Row)
-    (place : ℕ) : Type 0 where
-  pub rows : rows_stored cells
-      (set stored place (record { revision = row.revision; amount = row.amount })) ≡ current_rows
-      (rows_stored cells stored ++ row ∷ [])
-  pub newer : verdict_where (find (same_cell row) (rows_stored cells stored)) row ≢ New
-
-pub put_in_place : (cells : List Cell) (stored : List Stored) (row : Row) (room : List Cell)
-    (place : ℕ) → length stored ≤ length cells → IsDistinct same_cell (rows_stored cells stored) →
-    position (cell_eq (cell_of row)) cells ≡ Some place → place < length stored →
-    MayPutAs (verdict_where (find (same_cell row) (rows_stored cells stored)) row) room
-    (cell_of row) → PutInPlace cells stored row place
-put_in_place cells stored row room place within apart there below may =
-    let lt : place < length (rows_stored cells stored) =
-    omega (arith, length-rows cells stored within) in
-    by (row_there (rows_stored cells stored) place lt).0
-    (row_there (rows_stored cells stored) place lt).1
-  where
-    at : first (cell_eq (cell_of row)) cells ≡ Some place
-    at = sym (position-first (cell_eq (cell_of row)) cells) ∙ there
-
-    by : (kept : Row) → slice_get (rows_stored cells stored) place ≡ Some kept
-        → PutInPlace cells stored row place
-    by kept e =
-        let found : find (same_cell row) (rows_stored cells stored) ≡ Some kept =
-        kept_at cells stored row kept place at e in
-        record {
-          rows = settle_at cells stored row kept place at e (newer_put kept row room (subst
-              (λ (o : Option Row). MayPutAs (verdict_where o row) room (cell_of row)) found may))
-              ∙ put_current (rows_stored cells stored) row apart;
-          newer = subst (λ (o : Option Row). verdict_where o row ≢ New) (sym found)
-              (newer_verdict kept row);
-        }
 
 -- what may be put behind the kept rows
 pub record PutBehind (cells : List Cell) (stored : List Stored) (row : Row) : Type 0 where

@@ -31,11 +31,10 @@ fn judge_rows(
     requires { earlier.old.rows ≡ [] }
     ensures { IfOk result (λ found. found.items ≡ verdicts kept.now.rows rows.now) }
 {
-    earlier.make_room(rows)?;
     let mut found = Vec::with_capacity(alloc, rows.len())?;
     for row in rows {
         found.push(kept.check_after(earlier, row))?;
-        earlier.take(row);
+        earlier.arrive(row)?;
     }
     Ok(found)
 }

@@ -12,7 +12,8 @@ ghost use Rattle.sample_book.specs.Counting.{HaveForm, IsSmallRow, is_of, counte
 ghost use Rattle.sample_book.specs.Counting.{counts_of_minute, days_with_rows, first_of};
 ghost use Rattle.sample_book.specs.Exclusions.{Excluded, HaveOwnIds, IsLive, Lifted, excludes};
 ghost use Rattle.sample_book.specs.Exclusions.{exclusion_of, is_excluded, after_lifting};
-ghost use Rattle.sample_book.specs.History.{Came, Changed, Gains, Holds, is_put};
+ghost use Rattle.sample_book.specs.History.{Came, Changed, Gains, Holds, MayComeAs, is_put};
+ghost use Rattle.sample_book.specs.History.{room_after, rows_after};
 ghost use Rattle.sample_book.specs.Puts.{IsPutInto, verdicts};
 ghost use Rattle.sample_book.specs.Rows.{MayPutAs, cell_of, current_rows, room_for, row_of_cell};
 ghost use Rattle.sample_book.specs.Rows.{verdict_of};
@@ -145,8 +146,22 @@ impl SampleBook {
         ensures spare { self.new.spare ≡ self.old.spare }
         ensures history { Gains self.old (Came row.now) self.new }
     {
+        self.take(row);
+    }
+
+    /// A row comes: it is put where it is new or newer, with no memory. It is looked up once.
+    pub fn take(&mut self, row: &Row)
+        requires { MayComeAs (verdict_of self.old.rows row.now) self.old.room (cell_of row.now) }
+        ensures rows { self.new.rows ≡ rows_after self.old.rows row.now }
+        ensures placed { is_put (verdict_of self.old.rows row.now) ≡ true
+            → IsPutInto self.old.rows row.now (verdict_of self.old.rows row.now) self.new.rows }
+        ensures room { self.new.room ≡ room_after (verdict_of self.old.rows row.now) self.old.room }
+        ensures exclusions { self.new.exclusions ≡ self.old.exclusions }
+        ensures spare { self.new.spare ≡ self.old.spare }
+        ensures history { Gains self.old (Came row.now) self.new }
+    {
         let before = self.rows.len();
-        self.rows.put(row);
+        self.rows.take(row);
         if before < self.rows.len() {
             self.index.push(&row.cell());
         }

@@ -1,11 +1,11 @@
 //! The current rows, and room for the rows of further cells.
-ghost use Rattle.std.specs.Prelude.{List, ◌+◌, ◌≤◌, ◌≡◌, ◌≢◌, ◌<◌, ◌++◌, ◌∷◌, []};
+ghost use Rattle.std.specs.Prelude.{List, ◌+◌, ◌≤◌, ◌≡◌, ◌≢◌, ◌<◌, ◌++◌, []};
 ghost use Rattle.std.specs.Prelude.{false, Some, IfSome, IfNone, OnOk, OnErr, length, slice_get};
 ghost use Rattle.std.specs.Prelude.{IfOk, drop as drop_list, take, true};
 ghost use Rattle.std.specs.List.{list_any, position};
 ghost use Rattle.sample_book.specs.History.{MayComeAs, is_put, room_after, rows_after};
 ghost use Rattle.sample_book.specs.Puts.{IsPutInto, later_of};
-ghost use Rattle.sample_book.specs.Rows.{MayPutAs, cell_of, current_rows, kept_of};
+ghost use Rattle.sample_book.specs.Rows.{cell_of, current_rows, kept_of};
 ghost use Rattle.cell_index.specs.Cells.{cell_eq};
 ghost use Rattle.sample_book.specs.Rows.{new_cells, room_for, row_of_cell, verdict_of};
 ghost use Rattle.sample_book.specs.Rows.{verdict_where};
@@ -120,32 +120,19 @@ impl CurrentRows {
         let _count = self.stored.len();
     }
 
-    /// Puts a row that is new or newer, with no memory.
-    pub(crate) fn put(&mut self, row: &Row)
-        requires { MayPutAs (verdict_of self.old.rows row.now) self.old.room (cell_of row.now) }
-        ensures rows { self.new.rows ≡ current_rows (self.old.rows ++ row.now ∷ []) }
-        ensures placed { IsPutInto self.old.rows row.now (verdict_of self.old.rows row.now)
-            self.new.rows }
-        ensures new { verdict_of self.old.rows row.now ≡ RowVerdict.New
-            → self.old.room ≡ cell_of row.now ∷ self.new.room }
-        ensures newer { verdict_of self.old.rows row.now ≢ RowVerdict.New
-            → self.new.room ≡ self.old.room }
-    {
-        let stored = stored_of(row);
-        match kept_place(&self.cells, self.stored.len(), &row.cell()) {
-            Some(place) => self.stored.set(place, stored),
-            None => self.stored.push(stored),
-        }
-    }
-
-    /// A row comes: it is put where it is new or newer.
+    /// A row comes: it is put where it is new or newer, with no memory. It is looked up once.
     pub(crate) fn take(&mut self, row: &Row)
         requires { MayComeAs (verdict_of self.old.rows row.now) self.old.room (cell_of row.now) }
         ensures rows { self.new.rows ≡ rows_after self.old.rows row.now }
+        ensures placed { is_put (verdict_of self.old.rows row.now) ≡ true
+            → IsPutInto self.old.rows row.now (verdict_of self.old.rows row.now) self.new.rows }
         ensures room { self.new.room ≡ room_after (verdict_of self.old.rows row.now) self.old.room }
     {
-        if is_put(&self.check(row)) {
-            self.put(row);
+        match kept_place(&self.cells, self.stored.len(), &row.cell()) {
+            Some(place) => {
+                renew(&self.cells, &mut self.stored, place, row);
+            }
+            None => append(&self.cells, &mut self.stored, row),
         }
     }
 
@@ -226,6 +213,8 @@ fn renew(cells: &Cells, stored: &mut StoredRows, place: usize, row: &Row) -> Row
     requires within { place < length stored.old.rows }
     requires there { position (cell_eq (cell_of row.now)) cells.now ≡ Some place }
     ensures verdict { result ≡ verdict_of (rows_stored cells.now stored.old.rows) row.now }
+    ensures known { verdict_of (rows_stored cells.now stored.old.rows) row.now ≢ RowVerdict.New }
+    ensures count { length stored.new.rows ≡ length stored.old.rows }
     ensures rows { rows_stored cells.now stored.new.rows
         ≡ rows_after (rows_stored cells.now stored.old.rows) row.now }
     ensures step { IsInStep cells.now stored.new.rows stored.new.capacity }
@@ -238,13 +227,15 @@ fn renew(cells: &Cells, stored: &mut StoredRows, place: usize, row: &Row) -> Row
     verdict
 }
 
-/// A row comes whose cell is the last one, behind those that have rows.
+/// A row comes whose cell is the first one behind those that have rows.
 fn append(cells: &Cells, stored: &mut StoredRows, row: &Row)
     requires step { IsInStep cells.now stored.old.rows stored.old.capacity }
-    requires last { drop_list (length stored.old.rows) cells.now ≡ cell_of row.now ∷ [] }
+    requires first { slice_get (drop_list (length stored.old.rows) cells.now) 0
+        ≡ Some (cell_of row.now) }
     requires absent { list_any (cell_eq (cell_of row.now))
         (take (length stored.old.rows) cells.now) ≡ false }
     ensures new { verdict_of (rows_stored cells.now stored.old.rows) row.now ≡ RowVerdict.New }
+    ensures count { length stored.new.rows ≡ length stored.old.rows + 1 }
     ensures rows { rows_stored cells.now stored.new.rows
         ≡ rows_after (rows_stored cells.now stored.old.rows) row.now }
     ensures step { IsInStep cells.now stored.new.rows stored.new.capacity }

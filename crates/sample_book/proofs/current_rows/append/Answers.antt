@@ -11,7 +11,7 @@ use Rattle.sample_book.proofs.current_rows.append.Goals as goal
 pub push-requires : goal.push-requires
 push-requires c =
     let within = (appended c.args.cells.now c.args.stored.now.rows c.args.row.now
-    c.requires.step.apart c.requires.last c.requires.absent).within in
+    c.requires.step.apart c.requires.first c.requires.absent).within in
     omega (arith, within, c.requires.step.ready)
 
 -- what is stored grew by the row
@@ -30,17 +30,24 @@ longer c = ap length (grown c)
 
 pub returns-clause-new : goal.returns-clause-new
 returns-clause-new c = (appended c.args.cells.now c.args.stored.now.rows c.args.row.now
-    c.requires.step.apart c.requires.last c.requires.absent).new
+    c.requires.step.apart c.requires.first c.requires.absent).new
+
+pub returns-clause-count : goal.returns-clause-count
+returns-clause-count c = ap length (grown c)
+    ∙ length-append c.args.stored.now.rows (record {
+      revision = c.args.row.now.revision;
+      amount = c.args.row.now.amount;
+    } ∷ [])
 
 pub returns-clause-rows : goal.returns-clause-rows
 returns-clause-rows c = ap (rows_stored c.args.cells.now) (grown c)
     ∙ (appended c.args.cells.now c.args.stored.now.rows c.args.row.now c.requires.step.apart
-    c.requires.last c.requires.absent).taken
+    c.requires.first c.requires.absent).taken
 
 pub returns-clause-step : goal.returns-clause-step
 returns-clause-step c =
     let within = (appended c.args.cells.now c.args.stored.now.rows c.args.row.now
-    c.requires.step.apart c.requires.last c.requires.absent).within in
+    c.requires.step.apart c.requires.first c.requires.absent).within in
     record {
       within = omega (arith, within, longer c);
       ready = omega (arith, c.requires.step.ready, c.push.ensures.capacity);
@@ -48,5 +55,5 @@ returns-clause-step c =
       apart =
           subst (λ (rows : List Stored). IsDistinct same_cell (rows_stored c.args.cells.now rows))
           (sym (grown c)) (appended c.args.cells.now c.args.stored.now.rows c.args.row.now
-          c.requires.step.apart c.requires.last c.requires.absent).distinct;
+          c.requires.step.apart c.requires.first c.requires.absent).distinct;
     }

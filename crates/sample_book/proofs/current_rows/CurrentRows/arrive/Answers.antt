@@ -1,5 +1,5 @@
 use Rattle.std.proofs.Common.{◌≡◌, ◌∙◌, ◌++◌, ◌∷◌, [], List, ap, sym, subst, length, take, Some}
-use Rattle.std.proofs.Common.{None, is_some}
+use Rattle.std.proofs.Common.{None, is_some, slice_get}
 use Rattle.std.specs.List.{IsDistinct, list_any, position}
 use Rattle.cell_index.specs.declared.Cell.{Cell}
 use Rattle.sample_book.specs.declared.row.Row.{Row}
@@ -94,8 +94,9 @@ renew-requires-clause-there c =
 pub append-requires-clause-step : goal.append-requires-clause-step
 append-requires-clause-step c = (added (goal.at.append-requires-clause-step c).In-Ok-None).in_step
 
-pub append-requires-clause-last : goal.append-requires-clause-last
-append-requires-clause-last c = (added (goal.at.append-requires-clause-last c).In-Ok-None).room
+pub append-requires-clause-first : goal.append-requires-clause-first
+append-requires-clause-first c = ap (λ (room : List Cell). slice_get room 0)
+    (added (goal.at.append-requires-clause-first c).In-Ok-None).room
 
 pub append-requires-clause-absent : goal.append-requires-clause-absent
 append-requires-clause-absent c =
