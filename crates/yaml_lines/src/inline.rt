@@ -74,11 +74,8 @@ fn plain_value(alloc: Global, column: usize, bytes: &[u8]) -> Result<Line, Alloc
     if byte_at(bytes, end) == b':' {
         return Line::spoiled(alloc, column, ProfileFault::Colon);
     }
-    let text = Vec::from_slice(alloc, without_blanks(before(bytes, end)))?;
-    let node = Node::Scalar {
-        text: ScalarText::of(text),
-        plain: true,
-    };
+    let text = ScalarText::copy_of(alloc, without_blanks(before(bytes, end)))?;
+    let node = Node::Scalar { text, plain: true };
     Line::one(alloc, Mark::Value(column, node), None)
 }
 
@@ -294,10 +291,11 @@ fn plain_key(alloc: Global, bytes: &[u8]) -> Result<Option<Key>, AllocError>
 {
     let end = plain_len(bytes);
     if byte_at(bytes, end) == b':' {
-        let text = Vec::from_slice(alloc, without_spaces(before(bytes, end)))?;
-        let fault = plain_key_fault(&text);
+        let key = without_spaces(before(bytes, end));
+        let fault = plain_key_fault(key);
+        let text = ScalarText::copy_of(alloc, key)?;
         Ok(Some(Key {
-            text: ScalarText::of(text),
+            text,
             length: end + 1,
             fault,
         }))

@@ -7,7 +7,7 @@ ghost use Rattle.yaml_terms.specs.Mark as keys;
 ghost use Rattle.yaml_terms.specs.Line.{behind_colon as behind_colon_def};
 ghost use Rattle.yaml_terms.specs.Line.{entry_or_value as entry_or_value_def};
 ghost use Rattle.yaml_terms.specs.Line.{tab_fault as tab_fault_def, content as content_def};
-ghost use Rattle.yaml_terms.specs.Line.{one_mark};
+ghost use Rattle.yaml_terms.specs.Line.{with_fault, with_mark};
 ghost use Rattle.yaml_terms.specs.Line.{key_of as key_of_list};
 ghost use Rattle.yaml_terms.specs.Line.{begins_as_marker as begins_as_marker_def};
 ghost use Rattle.yaml_terms.specs.Line.{is_marker as is_marker_def};
@@ -37,11 +37,17 @@ fn behind_colon(alloc: Global, column: usize, bytes: &[u8]) -> Result<Line, Allo
     }
 }
 
-/// A key's mark and its fault.
-fn key_line(alloc: Global, column: usize, key: Key) -> Result<Line, AllocError>
-    ensures { IfOk result (λ l. line_view l ≡ one_mark (keys.key column key.text) key.fault) }
+/// A key, and what stands behind its colon.
+fn key_line(column: usize, key: Key, rest: Line) -> Result<Line, AllocError>
+    ensures { IfOk result (λ l. line_view l
+        ≡ with_mark (keys.key column key.text) (with_fault key.fault (line_view rest))) }
 {
-    Line::one(alloc, Mark::Key(column, key.text), key.fault)
+    let Key {
+        text,
+        length: _,
+        fault,
+    } = key;
+    rest.behind(Mark::Key(column, text), fault)
 }
 
 /// The entry that a key begins, or a value where there is none.
@@ -61,7 +67,7 @@ fn entry_or_value(
         Some(key) => {
             let length = key.length;
             let rest = behind_colon(alloc, column + length, from(bytes, length))?;
-            key_line(alloc, column, key)?.with(rest)
+            key_line(column, key, rest)
         }
     }
 }

@@ -1,6 +1,6 @@
 //! Marks: what stands on a line, each with its column.
 
-ghost use Rattle.std.specs.Prelude.{◌≡◌};
+ghost use Rattle.std.specs.Prelude.{◌≡◌, ◌++◌, IfOk};
 ghost use Rattle.yaml_terms.specs.Fault.{column};
 ghost use Rattle.yaml_lines.specs.LineView.{mark_view};
 ghost use Rattle.yaml_terms.specs.Mark as marks;
@@ -59,7 +59,7 @@ pub struct Line {
 impl Line {
     ghost use Rattle.std.specs.Prelude.{◌≡◌, ℕ, List, IfOk};
     ghost use Rattle.yaml_terms.specs.Line.{no_marks, faulty as faulty_def, one_mark};
-    ghost use Rattle.yaml_terms.specs.Line.{spoiled_value};
+    ghost use Rattle.yaml_terms.specs.Line.{spoiled_value, with_fault, with_mark};
     ghost use Rattle.yaml_lines.specs.LineView.{line_view, mark_view, joined_lines};
 
     /// A line with nothing on it.
@@ -107,9 +107,31 @@ impl Line {
         ensures { IfOk result (λ l. line_view l ≡ joined_lines (line_view self) (line_view rest)) }
     {
         let fault = earlier(self.fault, rest.fault);
-        let mut marks = self.marks;
-        let mut more = rest.marks;
-        marks.append(&mut more)?;
+        let marks = joined_marks(self.marks, rest.marks)?;
         Ok(Line { marks, fault })
     }
+
+    /// This line behind a mark that has a fault of its own or none.
+    pub(crate) fn behind(self, mark: Mark, own: Option<ProfileFault>) -> Result<Line, AllocError>
+        ensures { IfOk result (λ l. line_view l
+            ≡ with_mark (mark_view mark) (with_fault own (line_view self))) }
+    {
+        let fault = earlier(own, self.fault);
+        let mut marks = self.marks;
+        marks.insert(0, mark)?;
+        Ok(Line { marks, fault })
+    }
+}
+
+/// Marks, and those behind them. Most lines have marks in one of both alone.
+fn joined_marks(marks: Vec<Mark>, more: Vec<Mark>) -> Result<Vec<Mark>, AllocError>
+    ensures { IfOk result (λ v. v.items ≡ marks.items ++ more.items) }
+{
+    if marks.is_empty() {
+        return Ok(more);
+    }
+    let mut marks = marks;
+    let mut more = more;
+    marks.append(&mut more)?;
+    Ok(marks)
 }
