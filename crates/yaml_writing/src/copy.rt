@@ -10,7 +10,7 @@ use yaml_terms::{Node, Nodes, Pairs, ScalarText};
 pub(crate) fn copy_text(alloc: Global, text: &ScalarText) -> Result<ScalarText, AllocError>
     ensures { IfOk result (λ t. t ≡ text.now) }
 {
-    Ok(ScalarText::of(Vec::from_slice(alloc, text.as_bytes())?))
+    ScalarText::copy_of(alloc, text.as_bytes())
 }
 
 /// A copy of a node, with all that it holds.
@@ -37,7 +37,7 @@ pub fn copy_node(alloc: Global, node: &Node) -> Result<Node, AllocError>
 fn copy_pairs(alloc: Global, entries: &[(ScalarText, Node)]) -> Result<Pairs, AllocError>
     ensures { IfOk result (λ v. fields_view v.items ≡ fields_view entries.now) }
 {
-    let mut copies = Vec::new(alloc);
+    let mut copies = Vec::with_capacity(alloc, entries.len())?;
     for (key, node) in entries {
         let key = copy_text(alloc, key)?;
         let node = copy_node(alloc, node)?;
@@ -51,7 +51,7 @@ fn copy_pairs(alloc: Global, entries: &[(ScalarText, Node)]) -> Result<Pairs, Al
 fn copy_nodes(alloc: Global, items: &[Node]) -> Result<Nodes, AllocError>
     ensures { IfOk result (λ v. map node_view v.items ≡ map node_view items.now) }
 {
-    let mut copies = Vec::new(alloc);
+    let mut copies = Vec::with_capacity(alloc, items.len())?;
     for node in items {
         copies.push(copy_node(alloc, node)?)?;
     }

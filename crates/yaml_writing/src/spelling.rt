@@ -30,7 +30,7 @@ fn spelled_fields(alloc: Global, entries: &Pairs) -> Result<Vec<(FieldKey, Spell
     ensures { IfOk result (λ v. fields_view v.items
         ≡ fields_spelled (entries_view entries.now.items)) }
 {
-    let mut fields = Vec::new(alloc);
+    let mut fields = Vec::with_capacity(alloc, entries.len())?;
     for entry in entries {
         let key = FieldKey::Quoted(copy_text(alloc, &entry.0)?);
         let value = spelled(alloc, &entry.1)?;
@@ -45,7 +45,7 @@ fn spelled_items(alloc: Global, nodes: &Nodes) -> Result<Vec<Spelling>, AllocErr
     ensures { IfOk result (λ v. items_view v.items
         ≡ items_spelled (trees (map node_view nodes.now.items))) }
 {
-    let mut items = Vec::new(alloc);
+    let mut items = Vec::with_capacity(alloc, nodes.len())?;
     for node in nodes {
         let item = spelled(alloc, node)?;
         items.push(item)?;

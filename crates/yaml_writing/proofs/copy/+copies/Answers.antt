@@ -12,15 +12,23 @@ copy_node-returns-in_ok-copy_pairs-in-Map t c =
     rw c.in-Map.is (same_map c.in_ok-copy_pairs-in-Map.field-0 c.in-Map.entries
     (c.in_ok-copy_pairs-in-Map.ensures ∙ ap fields_view c.deref.ensures.value))
 
+pub copy_nodes-returns-in_err-copies : goal.copy_nodes-returns-in_err-copies
+copy_nodes-returns-in_err-copies t c = no_ok _ _ c.from_residual.result c.from_residual.ensures.1
+
 pub copy_nodes-returns-in_err-copy_node : goal.copy_nodes-returns-in_err-copy_node
-copy_nodes-returns-in_err-copy_node t c = no_ok _ _ c.from_residual.result c.from_residual.ensures.1
+copy_nodes-returns-in_err-copy_node t c =
+    no_ok _ _ c.from_residual-in_err-copy_node.result c.from_residual-in_err-copy_node.ensures.1
 
 pub copy_nodes-returns-in_err-push : goal.copy_nodes-returns-in_err-push
 copy_nodes-returns-in_err-push t c =
     no_ok _ _ c.from_residual-in_err-push.result c.from_residual-in_err-push.ensures.1
 
+pub copy_pairs-returns-in_err-copies : goal.copy_pairs-returns-in_err-copies
+copy_pairs-returns-in_err-copies t c = no_ok _ _ c.from_residual.result c.from_residual.ensures.1
+
 pub copy_pairs-returns-in_err-key : goal.copy_pairs-returns-in_err-key
-copy_pairs-returns-in_err-key t c = no_ok _ _ c.from_residual.result c.from_residual.ensures.1
+copy_pairs-returns-in_err-key t c =
+    no_ok _ _ c.from_residual-in_err-key.result c.from_residual-in_err-key.ensures.1
 
 pub copy_pairs-returns-in_err-node : goal.copy_pairs-returns-in_err-node
 copy_pairs-returns-in_err-node t c =

@@ -47,9 +47,13 @@ spelled_items-loop-node-preserved t c =
     ∙ ap (λ (ns : List Node). items_spelled (trees (map node_view ns)))
     (sym (take_one xs l.node-index c.node-item.result c.loop-node-test.true c.node-item.is))
 
+pub spelled_fields-returns-in_err-fields : goal.spelled_fields-returns-in_err-fields
+spelled_fields-returns-in_err-fields t c =
+    no_ok _ _ c.from_residual.result c.from_residual.ensures.1
+
 pub spelled_fields-returns-in_err-copy_text : goal.spelled_fields-returns-in_err-copy_text
 spelled_fields-returns-in_err-copy_text t c =
-    no_ok _ _ c.from_residual.result c.from_residual.ensures.1
+    no_ok _ _ c.from_residual-in_err-copy_text.result c.from_residual-in_err-copy_text.ensures.1
 
 pub spelled_fields-returns-in_err-value : goal.spelled_fields-returns-in_err-value
 spelled_fields-returns-in_err-value t c =
@@ -59,8 +63,12 @@ pub spelled_fields-returns-in_err-push : goal.spelled_fields-returns-in_err-push
 spelled_fields-returns-in_err-push t c =
     no_ok _ _ c.from_residual-in_err-push.result c.from_residual-in_err-push.ensures.1
 
+pub spelled_items-returns-in_err-items : goal.spelled_items-returns-in_err-items
+spelled_items-returns-in_err-items t c = no_ok _ _ c.from_residual.result c.from_residual.ensures.1
+
 pub spelled_items-returns-in_err-item : goal.spelled_items-returns-in_err-item
-spelled_items-returns-in_err-item t c = no_ok _ _ c.from_residual.result c.from_residual.ensures.1
+spelled_items-returns-in_err-item t c =
+    no_ok _ _ c.from_residual-in_err-item.result c.from_residual-in_err-item.ensures.1
 
 pub spelled_items-returns-in_err-push : goal.spelled_items-returns-in_err-push
 spelled_items-returns-in_err-push t c =
