@@ -112,7 +112,7 @@ nothing-beyond line minute few u low = by (leb_tells (suc u) line.origin)
 -- what is known of the minutes once the places of a range, cut to the bytes, were forgotten
 pub known-forgotten : (before after : List ℕ) (rule : AlertRule)
     (target origin room room2 from to most : ℕ) → 4 * length before ≡ most →
-    4 * length after ≡ most →
+    4 * length after ≤ most →
     Forgets before after (min (from - origin) most) (min (to - origin) most) → (minute : ℕ) →
     knowledge (record {
       rule = rule;

@@ -2,7 +2,8 @@
 use Rattle.std.proofs.Common.{bit_and, ◌^◌, ◌≡◌, ◌≢◌, ◌⊎◌, ℕ, zero, suc, ◌+◌, ◌*◌, ◌/◌, ◌%◌, ◌<◌}
 use Rattle.std.proofs.Common.{◌≤◌, ◌==◌, ◌&&◌, ◌||◌, nat_eq, nat_le, nat_lt, Bool, true, false, inl}
 use Rattle.std.proofs.Common.{inr, List, length, Option, None, refl, sym, ap, subst, ◌∙◌, arith}
-use Rattle.std.proofs.Common.{slice_index, slice_index_or, slice_set, if◌then◌else◌}
+use Rattle.std.proofs.Common.{slice_index, slice_index_or, slice_set, if◌then◌else◌, take}
+use Rattle.std.proofs.Common.{get_or-take, length-take}
 use Rattle.std.proofs.lemmas.Bool.Decides.{eqb_tells, leb_tells, nat_tests}
 use Rattle.std.proofs.lemmas.List.{get_or-set_same, get_or-set_other}
 use Rattle.std.proofs.lemmas.Nat.{and_mask}
@@ -154,6 +155,64 @@ kept_at-lengthened before after count more len old new slot =
         let past : length before ≤ at = omega (arith, a.1) in
         let past2 : length after ≤ at = omega (arith, b.1, len) in
         get_or-eq_default after 0 past2 ∙ sym (get_or-eq_default before 0 past)
+
+below-both : (from slot n m : ℕ) → slot < n → slot < m →
+    (nat_le from slot && nat_lt slot n) ≡ (nat_le from slot && nat_lt slot m)
+below-both from slot n m a b = grind (arith, nat_tests)
+
+inside : (from slot n : ℕ) → from ≤ slot → slot < n → (nat_le from slot && nat_lt slot n) ≡ true
+inside from slot n a b = grind (arith, nat_tests)
+
+-- where the bytes end earlier, all behind is forgotten
+pub Forgets-cut : (before at after : List ℕ) (from end : ℕ) → from ≤ 4 * end →
+    Forgets before at from (4 * end) → length at ≡ length before → after ≡ take end at →
+    Forgets before after from (4 * length before)
+Forgets-cut before at after from end le first same cut slot =
+    ap (λ (l : List ℕ). kept_at l slot) cut ∙ by (leb_tells (suc (slot / 4)) end)
+    (leb_tells (suc slot) (4 * length before))
+  where
+    part : List ℕ
+    part = take end at
+
+    gone : Option Bool
+    gone = if nat_le from slot && nat_lt slot (4 * length before) then None
+        else kept_at before slot
+
+    none : (b : Bool) (o : Option Bool) → o ≡ None → None ≡ (if b then None else o)
+    none true o e = refl
+    none false o e = sym e
+
+    here : slot / 4 < end → kept_at part slot ≡ kept_at at slot
+    here less = ap (λ b. verdict_of (bits_at b (slot % 4))) (get_or-take end at (slot / 4) 0 less)
+
+    behind : end ≤ slot / 4 → kept_at part slot ≡ None
+    behind past =
+        let short : length part ≤ slot / 4 = omega (arith, past, length-take end at) in
+        ap (λ b. verdict_of (bits_at b (slot % 4))) (get_or-eq_default part 0 short)
+        ∙ ap verdict_of (nothing-kept (slot % 4) (omega arith))
+
+    by : ((nat_lt (slot / 4) end ≡ true) × (suc (slot / 4) ≤ end))
+        ⊎ ((nat_lt (slot / 4) end ≡ false) × (end < suc (slot / 4))) →
+        ((nat_lt slot (4 * length before) ≡ true) × (suc slot ≤ 4 * length before))
+        ⊎ ((nat_lt slot (4 * length before) ≡ false) × (4 * length before < suc slot)) →
+        kept_at part slot ≡ gone
+    by (inl a) (inl b) =
+        here (omega (arith, a.1)) ∙ first slot
+        ∙ ap (λ (q : Bool). if q then None else kept_at before slot)
+        (below-both from slot (4 * end) (4 * length before) (omega (arith, a.1))
+        (omega (arith, b.1)))
+    by (inr a) (inl b) =
+        behind (omega (arith, a.1)) ∙ ap (λ (q : Bool). if q then None else kept_at before slot)
+        (sym (inside from slot (4 * length before) (omega (arith, a.1, le)) (omega (arith, b.1))))
+    by (inl a) (inr b) =
+        let past : 4 * length at ≤ slot = omega (arith, b.1, same) in
+        here (omega (arith, a.1)) ∙ kept_at-beyond at slot past
+        ∙ none (nat_le from slot && nat_lt slot (4 * length before)) (kept_at before slot)
+        (kept_at-beyond before slot (omega (arith, b.1)))
+    by (inr a) (inr b) =
+        behind (omega (arith, a.1))
+        ∙ none (nat_le from slot && nat_lt slot (4 * length before)) (kept_at before slot)
+        (kept_at-beyond before slot (omega (arith, b.1)))
 
 -- whole bytes of zeros forget all their places
 pub Forgets-bytes : (before after : List ℕ) (first end : ℕ) →

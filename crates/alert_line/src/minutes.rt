@@ -3,6 +3,7 @@ ghost use Rattle.std.specs.Prelude.{◌≡◌, ℕ, ◌+◌, ◌*◌, ◌/◌, �
 ghost use Rattle.std.specs.Prelude.{length, max, slice_index, vec_capacity, Some};
 ghost use Rattle.std.specs.Prelude.{if◌then◌else◌};
 ghost use Rattle.std.specs.List.{prefix_len};
+ghost use Rattle.slo_limits.specs.declared.TheConstants.{RANGE_MINUTES};
 ghost use Rattle.alert_line.specs.Minutes.{Forgets, byte_of, kept_at, verdict_of};
 
 use crate::bits::{bits_at, with_bits};
@@ -164,7 +165,7 @@ fn forget(bytes: &mut [u8], from: usize, to: usize)
     }
 }
 
-pub(crate) fn forget_in(bytes: &mut Vec<u8>, from: usize, to: usize)
+fn forget_within(bytes: &mut Vec<u8>, from: usize, to: usize)
     requires order { from ≤ to }
     requires within { to ≤ 4 * length bytes.old.items }
     ensures value { Forgets bytes.old.items bytes.new.items from to }
@@ -172,4 +173,33 @@ pub(crate) fn forget_in(bytes: &mut Vec<u8>, from: usize, to: usize)
     ensures room { vec_capacity bytes.new ≡ vec_capacity bytes.old }
 {
     forget(bytes, from, to);
+}
+
+/// All from a place on: the bytes end there.
+fn forget_end(bytes: &mut Vec<u8>, from: usize)
+    requires within { from ≤ 4 * length bytes.old.items }
+    requires few { 4 * length bytes.old.items ≤ RANGE_MINUTES }
+    ensures value { Forgets bytes.old.items bytes.new.items from (4 * length bytes.old.items) }
+    ensures fewer { length bytes.new.items ≤ length bytes.old.items }
+    ensures room { vec_capacity bytes.new ≡ vec_capacity bytes.old }
+{
+    let end = from.div_ceil(4);
+    forget_within(bytes, from, 4 * end);
+    bytes.truncate(end);
+}
+
+pub(crate) fn forget_in(bytes: &mut Vec<u8>, from: usize, to: usize)
+    requires order { from ≤ to }
+    requires within { to ≤ 4 * length bytes.old.items }
+    requires few { 4 * length bytes.old.items ≤ RANGE_MINUTES }
+    ensures value { Forgets bytes.old.items bytes.new.items from to }
+    ensures fewer { length bytes.new.items ≤ length bytes.old.items }
+    ensures room { vec_capacity bytes.new ≡ vec_capacity bytes.old }
+{
+    let last = to == 4 * bytes.len();
+    if last {
+        forget_end(bytes, from);
+        return;
+    }
+    forget_within(bytes, from, to);
 }

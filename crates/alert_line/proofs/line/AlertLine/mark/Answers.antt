@@ -1,5 +1,5 @@
 use Rattle.std.proofs.Common.{ℕ, ◌≡◌, ◌∙◌, ◌-◌, ◌*◌, ◌&&◌, min, refl, ap, sym, subst, length}
-use Rattle.std.proofs.Common.{nat_le, nat_lt, List, None, if◌then◌else◌}
+use Rattle.std.proofs.Common.{arith, nat_le, nat_lt, List, None, if◌then◌else◌}
 use Rattle.std.specs.Prelude.{vec_capacity}
 use Rattle.alert_line.specs.Laws.{HasForgotten}
 use Rattle.alert_line.specs.Line.{Agrees, Line, knowledge}
@@ -43,7 +43,7 @@ forgotten c =
     (subst (λ n. Forgets before after c.min-first.result n) end c.forget_in.ensures.value) in
     known-forgotten before after inside.rule inside.target inside.origin
     (vec_capacity inside.bytes) (vec_capacity c.forget_in.new.bytes) c.args.from c.args.to most
-    refl (ap (λ n. 4 * n) c.forget_in.ensures.len) forgets
+    refl (omega (arith, c.forget_in.ensures.fewer)) forgets
 
 pub returns-then-first-end-clause-forgotten : goal.returns-then-first-end-clause-forgotten
 returns-then-first-end-clause-forgotten c = λ minute.
