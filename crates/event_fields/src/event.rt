@@ -3,12 +3,12 @@ ghost use Rattle.std.specs.Prelude.{◌≡◌, ◌≤◌, IfOk, IfSome};
 ghost use Rattle.event_fields.specs.Events.{AreCounted, counts_of, event_of, fields_event};
 ghost use Rattle.event_fields.specs.Events.{minute_of};
 ghost use Rattle.event_fields.specs.Events.{revision_of, words_of_event};
-ghost use Rattle.event_fields.specs.declared.field_number.TheConstants.{MAX_NUMBER};
+ghost use Rattle.plain_fields.specs.declared.number.TheConstants.{MAX_NUMBER};
 
-use crate::field_number::read_field;
 use crate::sources::Sources;
 use csv_records::Record;
 use exact_fraction::Label;
+use plain_fields::read_field_number;
 use slo_limits::{MAX_MINUTE, MAX_REVISION};
 
 /// The good events and all events that a source tells for a minute.
@@ -54,7 +54,7 @@ pub fn event_words(fault: EventFault) -> &'static str
 fn read_revision(text: &[u8]) -> Option<u32>
     ensures { result ≡ revision_of text.now }
 {
-    let revision = read_field(text, u64::from(MAX_REVISION))?;
+    let revision = read_field_number(text, u64::from(MAX_REVISION))?;
     if 1 <= revision {
         Some(revision as u32)
     } else {
@@ -68,8 +68,8 @@ fn read_counts(good: &[u8], total: &[u8], most: u64) -> Option<(u64, u64)>
     ensures counts { result ≡ counts_of most good.now total.now }
     ensures counted { IfSome result (λ counts. AreCounted most counts.0 counts.1) }
 {
-    let good = read_field(good, most)?;
-    let total = read_field(total, most)?;
+    let good = read_field_number(good, most)?;
+    let total = read_field_number(total, most)?;
     if good <= total {
         Some((good, total))
     } else {
@@ -81,7 +81,7 @@ fn read_counts(good: &[u8], total: &[u8], most: u64) -> Option<(u64, u64)>
 fn read_minute(text: &[u8]) -> Option<u32>
     ensures { result ≡ minute_of text.now }
 {
-    let minute = read_field(text, u64::from(MAX_MINUTE))?;
+    let minute = read_field_number(text, u64::from(MAX_MINUTE))?;
     Some(minute as u32)
 }
 
