@@ -1,13 +1,12 @@
 -- The lines of a part, and the records behind them.
-use Rattle.std.proofs.Common.{◌≡◌, ◌∙◌, ◌≤◌, ◌<◌, ◌+◌, ◌-◌, ◌++◌, ◌∷◌, ℕ, List, [], All, Err, Ok}
+use Rattle.std.proofs.Common.{◌≡◌, ◌∙◌, ◌≤◌, ◌+◌, ◌++◌, ◌∷◌, ℕ, List, [], All, Err, Ok}
 use Rattle.std.proofs.Common.{ap, append_assoc, arith, drop, length, refl}
 use Rattle.std.proofs.Common.{subst, sym}
 use Rattle.std.specs.Prelude.{Result, IfOk}
-use Rattle.std.proofs.Math.Seq.{drop-length}
-use Rattle.std.proofs.lemmas.List.{append-nil, drop_more}
-use Rattle.csv.proofs.OnLiterals.{csv_on_literals}
+use Rattle.std.proofs.lemmas.List.{append-nil}
 use Rattle.csv_records.specs.Records.{Fields, csv_records}
-use Rattle.event_fields.specs.Lines.{StandsBehindFeed}
+use Rattle.plain_fields.specs.Lines.{StandsBehindFeed}
+use Rattle.plain_fields.proofs.PlaceLemmas.{feed_first, none_left}
 use Rattle.slo_limits.specs.declared.TheConstants.{MAX_CELLS}
 use Rattle.slo_terms.specs.Judged.{judged_from}
 use Rattle.budget_command.specs.Records.{IsCounted, outcome, outcome_over}
@@ -18,26 +17,6 @@ use Rattle.budget_command.specs.declared.table.Table.{Table}
 use Rattle.budget_command.proofs.CurrentLemmas.{after-holds}
 use Rattle.budget_command.proofs.TableLemmas.{so_far-behind, so_far-broken, so_far-push}
 use Rattle.budget_command.proofs.TableLemmas.{tallied-more}
-
--- a text from the line feed before a place on
-pub feed_first : (text : List ℕ) (at : ℕ) → StandsBehindFeed text at
-    → drop (at - 1) text ≡ 10 ∷ drop at text
-feed_first text at behind =
-    let within : at - 1 < length text = omega (arith, behind.some, behind.within) in
-    let next : at - 1 + 1 ≡ at = omega (arith, behind.some) in
-    drop_more text (at - 1) 0 within
-    ∙ ap (λ (byte : ℕ). byte ∷ drop (at - 1 + 1) text) behind.feed
-    ∙ ap (λ (n : ℕ). 10 ∷ drop n text) next
-
--- a line feed alone has no record
-feed_alone : csv_records (10 ∷ []) ≡ []
-unfolding csv_on_literals
-feed_alone = refl
-
-none_left : (part : List ℕ) (at : ℕ) → at ≡ length part → csv_records (10 ∷ drop at part) ≡ []
-none_left part at e =
-    ap (λ (n : ℕ). csv_records (10 ∷ drop n part)) e
-    ∙ ap (λ (rest : List ℕ). csv_records (10 ∷ rest)) (drop-length part) ∙ feed_alone
 
 -- where no record is left, all are taken
 pub all-none : (part : List ℕ) (at number : ℕ) (table : Table) (before : List Fields)

@@ -4,7 +4,7 @@ use Rattle.std.specs.Prelude.{Result, Ok, Err, All, count_by}
 use Rattle.std.specs.Prelude.{drop, length, if◌then◌else◌}
 use Rattle.csv_records.specs.Parts.{PartsAreRead}
 use Rattle.csv_records.specs.Records.{Fields, csv_records}
-use Rattle.event_fields.specs.Lines.{StandsBehindFeed}
+use Rattle.plain_fields.specs.Lines.{StandsBehindFeed}
 use Rattle.slo_limits.specs.declared.TheConstants.{MAX_CELLS}
 use Rattle.slo_terms.specs.Judged.{judged_from}
 use Rattle.sample_book.specs.declared.Row.{Row}

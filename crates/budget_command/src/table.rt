@@ -2,7 +2,7 @@
 ghost use Rattle.std.specs.Prelude.{◌≡◌, ◌+◌, ◌++◌, ◌≤◌, ℕ, List, Err, Ok, IfNone, IfOk, IfSome};
 ghost use Rattle.std.specs.Prelude.{OnOk, ◌∷◌, drop, length, true};
 ghost use Rattle.csv_records.specs.Records.{Fields, csv_records};
-ghost use Rattle.event_fields.specs.Lines.{StandsBehindFeed, fields_of};
+ghost use Rattle.plain_fields.specs.Lines.{StandsBehindFeed, five_of};
 ghost use Rattle.budget_command.specs.Records.{BUDGET, is_newer as is_newer_def};
 ghost use Rattle.budget_command.specs.Records.{is_repeated as is_repeated_def};
 ghost use Rattle.budget_command.specs.Records.{is_superseded as is_superseded_def, outcome_over};
@@ -13,8 +13,9 @@ ghost use Rattle.budget_command.specs.Tables.{IsBroken, IsEmpty, IsFit, tallies_
 use crate::fault::RecordFault;
 use crate::row::{indicator, row_of};
 use csv_records::{Record, RecordReader};
-use event_fields::{PlainLine, Sources, read_event, read_fields, read_plain_line};
+use event_fields::{Sources, read_event, read_fields};
 use exact_fraction::Label;
+use plain_fields::{LineOfFive, read_five, text_behind};
 use sample_book::{CurrentRows, Row, RowVerdict};
 use slo_limits::{MAX_AMOUNT, MAX_CELLS};
 use std::alloc::{AllocError, Global};
@@ -58,9 +59,9 @@ fn read_record(sli: &Label, sources: &mut Sources, fields: &Record) -> Result<Ro
 }
 
 /// The same of a line.
-fn read_line(sli: &Label, sources: &mut Sources, line: &PlainLine) -> Result<Row, RecordFault>
+fn read_line(sli: &Label, sources: &mut Sources, line: &LineOfFive) -> Result<Row, RecordFault>
     requires { sli.now ≡ BUDGET }
-    ensures read { (current : List Row) → outcome_over current (fields_of line.now)
+    ensures read { (current : List Row) → outcome_over current (five_of line.now)
         ≡ of_row current result }
     ensures counted { IfOk result IsCounted }
 {
@@ -185,16 +186,16 @@ impl Table {
         sli: &Label,
         sources: &mut Sources,
         number: u64,
-        line: &PlainLine,
+        line: &LineOfFive,
     ) -> Result<(), TableFault>
         requires indicator { sli.now ≡ BUDGET }
         requires tallied { tallies_in self.old + 1 ≤ number }
         requires few { length self.old.book.rows ≤ MAX_CELLS }
-        ensures taken { OnOk result (HasTakenRecord (fields_of line.now) self.old self.new) }
+        ensures taken { OnOk result (HasTakenRecord (five_of line.now) self.old self.new) }
         ensures few { OnOk result (length self.new.book.rows ≤ MAX_CELLS) }
         ensures broken { (at : ℕ) (fault : RecordFault) →
             result ≡ Err (TableFault.Broken at fault) →
-            (at ≡ number) × (outcome_over self.old.book.rows (fields_of line.now) ≡ Err fault) }
+            (at ≡ number) × (outcome_over self.old.book.rows (five_of line.now) ≡ Err fault) }
     {
         match read_line(sli, sources, line) {
             Ok(row) => self.take(number, &row),
@@ -208,14 +209,6 @@ fn begins_with_feed(text: &[u8]) -> bool
     ensures { result ≡ true → StandsBehindFeed text.now 1 }
 {
     0 < text.len() && text[0] == b'\n'
-}
-
-/// A text from the line feed before a place on.
-fn text_behind(text: &[u8], at: usize) -> &[u8]
-    requires { StandsBehindFeed text.now at }
-    ensures { result.now ≡ 10 ∷ drop at text.now }
-{
-    &text[at - 1..]
 }
 
 /// Takes the rows of the plain lines behind a part's line feed, the first of which has this number,
@@ -240,7 +233,7 @@ fn fill_lines(
     let mut next = number;
     let mut at: usize = 1;
     'lines: loop {
-        let Some(line) = read_plain_line(part, at) else {
+        let Some(line) = read_five(part, at) else {
             return Ok(LinesEnd { number: next, at });
         };
         match table.take_line(sli, sources, next, &line) {

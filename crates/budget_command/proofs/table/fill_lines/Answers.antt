@@ -1,6 +1,6 @@
 use Rattle.std.proofs.Common.{ℕ, List, ◌∷◌, ap, arith, drop, length, subst, sym}
 use Rattle.csv_records.specs.Records.{Fields}
-use Rattle.event_fields.specs.Lines.{fields_of}
+use Rattle.plain_fields.specs.Lines.{five_of}
 use Rattle.budget_command.specs.Tables.{IsBroken}
 use Rattle.budget_command.proofs.FillLemmas.{fit-more, line-broken, lines-broken, lines-more}
 use Rattle.budget_command.proofs.FillLemmas.{lines-none, other_err}
@@ -12,7 +12,7 @@ lines-init c = lines-none c.args.part.now c.args.number c.args.table.now c.requi
 
 pub lines-preserved : goal.lines-preserved
 lines-preserved c =
-    let fields = fields_of c.in-Some.line in
+    let fields = five_of c.in-Some.line in
     let old = c.lines.table in
     let new = c.take_line.new.self in
     lines-more c.args.part.now c.args.number c.args.table.now old new c.lines.at c.in-Some.line.end
@@ -34,4 +34,4 @@ returns-in-Err-clause-broken c = λ place fault e.
     (subst (λ (n : ℕ). IsBroken (10 ∷ drop c.lines.at part) c.lines.next c.lines.table n fault)
     (sym broken.0)
     (line-broken part c.lines.at c.in-Some.line.end c.lines.next c.lines.table
-    (fields_of c.in-Some.line) fault c.in-Some.ensures.records broken.1))
+    (five_of c.in-Some.line) fault c.in-Some.ensures.records broken.1))
