@@ -1,4 +1,4 @@
-//! Tests of the outside's forms, of messages, of sessions and workers, and of the journal.
+//! Tests of the outside's forms, of doors, messages, sessions and workers, and of the journal.
 //! Stands on the crates that it tests, and calls what they make public.
 //! Promises nothing by itself: the tests show what no clause of those crates says.
 #![tactic(auto)]
@@ -6,9 +6,15 @@
 #[cfg(test)]
 mod disks;
 #[cfg(test)]
+mod gate_sinks;
+#[cfg(test)]
 mod heads;
 #[cfg(test)]
 mod journals;
+#[cfg(test)]
+mod memory_doors;
+#[cfg(test)]
+mod ports;
 #[cfg(test)]
 mod rows;
 #[cfg(test)]

@@ -1,7 +1,7 @@
 use Rattle.std.proofs.Common.{◌≡◌, ◌≤◌, ◌+◌, length}
 use Rattle.std.specs.Vec.Iter.{into_iter_items, into_iter_len}
 use Rattle.office_doors.specs.DoorsMemory.{entrance_of}
-use Rattle.door_tests.proofs.memory_doors.serve_and_close.Given as goal
+use Rattle.outside_tests.proofs.memory_doors.serve_and_close.Given as goal
 
 abbrev pub invariant-loop-door : goal.invariant-loop-door
 invariant-loop-door l = record {
