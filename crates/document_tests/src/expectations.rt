@@ -12,3 +12,8 @@ pub(crate) fn expect(rt: &impl Abort, is_right: bool, case: &str) {
 pub(crate) fn expect_text(rt: &impl Abort, case: &str, found: &str, wanted: &str) {
     assert!(rt; found == wanted, "{case}\n{found}");
 }
+
+/// Ends the test, with both, unless the bytes are those that are wanted.
+pub(crate) fn expect_bytes(rt: &impl Abort, found: &[u8], wanted: &[u8]) {
+    assert_eq!(rt; found, wanted);
+}

@@ -1,8 +1,10 @@
-//! Tests of YAML texts, OpenSLO objects and catalogs; no code.
-//! Stands on the crates of documents, objects and catalogs, by public names.
+//! Tests of numbers, durations, calendars and CSV, of YAML texts, OpenSLO objects and catalogs.
+//! Stands on the crates of numbers, documents, objects and catalogs, by public names; no code.
 //! Promises that texts are read, written and kept as OpenSLO, YAML 1.2.2 and worked cases say.
 #![tactic(auto)]
 
+#[cfg(test)]
+mod calendars;
 #[cfg(test)]
 mod catalog_history;
 #[cfg(test)]
@@ -10,9 +12,17 @@ mod catalog_rules;
 #[cfg(test)]
 mod catalog_tables;
 #[cfg(test)]
+mod csv_texts;
+#[cfg(test)]
+mod decimals_and_fractions;
+#[cfg(test)]
 mod documents;
 #[cfg(test)]
+mod durations;
+#[cfg(test)]
 mod expectations;
+#[cfg(test)]
+mod names_and_texts;
 #[cfg(test)]
 mod object_faults;
 #[cfg(test)]

@@ -1,6 +1,6 @@
 use Rattle.std.proofs.Common.{◌≡◌, ◌+◌, length}
 use Rattle.csv_records.specs.Records.{csv_records}
-use Rattle.number_tests.proofs.csv_texts.count_records.Given as goal
+use Rattle.document_tests.proofs.csv_texts.count_records.Given as goal
 
 -- the records so far and those that are left are all of them
 abbrev pub invariant-records : goal.invariant-records

@@ -1,5 +1,5 @@
 use Rattle.std.proofs.Common.{length}
-use Rattle.number_tests.proofs.csv_texts.lines_of.Given as goal
+use Rattle.document_tests.proofs.csv_texts.lines_of.Given as goal
 
 abbrev pub decreases-records : goal.decreases-records
 decreases-records l = length l.reader
