@@ -21,6 +21,7 @@ PLAYED_BY_THE_GATE = {
     "pairs": "doors in memory",
     "failing doors": "doors in memory",
     "failing next": "doors in memory",
+    "files": "calls of the disk by itself",
 }
 # The most bytes of a feed that are shown.
 MOST_SHOWN = 100

@@ -1,8 +1,9 @@
-//! Worked sessions of the office over memory: a script on the input says what is run, and when.
-//! Stands on the program's top call and the memory forms of the outside.
+//! Worked sessions over memory, and calls on a real file: a script on the input says what is run.
+//! Stands on the program's top call and the forms of the outside.
 //! Promises only to end well: what comes out is compared with the answers worked out by hand.
 #![tactic(auto)]
 
+mod file_calls;
 mod mixtures;
 mod playing;
 mod sampling;
@@ -56,14 +57,20 @@ fn read_script<S: Source>(alloc: Global, input: &mut S) -> Result<String, Fault>
     String::from_utf8(bytes).map_err(|_| Fault::Text)
 }
 
-/// Plays a script, and gives what comes of it.
+/// Plays a script, and gives what comes of it. A line `files` stands for calls on a real file.
 fn play(
     rt: &(impl AllocGlobal + Wait + Threads + Sync),
+    host: HostRuntime,
     script: &str,
 ) -> Result<String, AllocError> {
     let mut stage = Stage::new(rt.alloc());
     for line in script.lines() {
-        stage.take_line(rt, line)?;
+        let taken = if line == "files" {
+            stage.call_files(host)
+        } else {
+            stage.take_line(rt, line)
+        };
+        taken?;
     }
     stage.end()
 }
@@ -72,7 +79,7 @@ fn main(rt: HostRuntime) -> ExitCode {
     let mut input = StdSource::new(rt.stdin());
     let mut output = StdSink::new(rt.stdout());
     let played = match read_script(rt.alloc(), &mut input) {
-        Ok(script) => play(&rt, script.as_str()),
+        Ok(script) => play(&rt, rt, script.as_str()),
         Err(_) => return ExitCode::from(1),
     };
     let Ok(text) = played else {

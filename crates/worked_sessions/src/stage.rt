@@ -1,5 +1,6 @@
 //! What the next run is made from, and what the runs so far came to.
 
+use crate::file_calls::said;
 use crate::playing::{Played, Setting};
 use crate::sampling::push_stream;
 use crate::series::{push_request, push_requests, push_series};
@@ -171,6 +172,13 @@ impl Stage {
             return Ok(());
         }
         self.set(line)
+    }
+
+    /// Notes what comes of calls on a real file.
+    pub fn call_files(&mut self, host: HostRuntime) -> Result<(), AllocError> {
+        self.end_request()?;
+        let told = said(host)?;
+        self.out.push_str(told.as_str())
     }
 
     /// The text of all that came out.

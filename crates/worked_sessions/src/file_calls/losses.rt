@@ -1,6 +1,6 @@
 //! A file that is changed by others under a disk.
-use crate::told::{end_of, read_from};
-use crate::{NAME, clear};
+use crate::file_calls::told::{end_of, read_from};
+use crate::file_calls::{NAME, clear};
 use office_outside::{Disk, FileDisk};
 use std::alloc::AllocError;
 use std::{fs, io};

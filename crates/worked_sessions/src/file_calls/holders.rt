@@ -1,6 +1,6 @@
 //! Two disks over one file.
-use crate::NAME;
-use crate::told::{end_of, read_from};
+use crate::file_calls::NAME;
+use crate::file_calls::told::{end_of, read_from};
 use office_outside::{Disk, FileDisk};
 use std::alloc::AllocError;
 use std::fs;
