@@ -17,7 +17,7 @@ use Rattle.window_sums.specs.Slices.{CountedDays, no_counts}
 use Rattle.office_history.specs.declared.Measure.{Measure}
 use Rattle.kept_sums.specs.Found.{HasNoOwn, HasNoPooled, IsFound, IsTold}
 use Rattle.kept_sums.specs.Objectives.{AreKept, HasNoExclusions, HasSums, counted, key_by, keys_by}
-use Rattle.kept_sums.specs.Objectives.{KeptObjectives, pooled}
+use Rattle.kept_sums.specs.Objectives.{IsPooledFor, KeptObjectives, made_for, pooled}
 use Rattle.kept_sums.specs.Sums.{HasItsDay, RowFits, SumsAreKept, row_counts, shares_by}
 use Rattle.kept_sums.specs.declared.kept.ObjectiveSums.{ObjectiveSums}
 use Rattle.kept_sums.proofs.KeyLemmas.{never_there}
@@ -137,6 +137,25 @@ found-pooled made rows kept m sums are none found =
     (subst (SumsAreKept found.entry.measure [] rows) found.is
     (entry-kept [] rows kept found.entry are found.there))
 
+-- where nothing is excluded for an objective, the sums of its SLO are pooled ones too
+for-either : (pool : Bool) (made : List (Exclusion × Bool)) (rows : List Row) (m : Measure)
+    (sums : CountedDays) → HasNoExclusions made m.slo → SumsAreKept m made rows sums
+    → SumsAreKept m (made_for pool made) rows sums
+for-either false made rows m sums none kept = kept
+for-either true made rows m sums none kept =
+    shared-sums m m made [] rows sums (alike true m m refl) (λ minute. none minute) kept
+
+-- so what is told of it is either
+pub told-either : (pool : Bool) (made : List (Exclusion × Bool)) (rows : List Row)
+    (kept : KeptObjectives) (m : Measure) (sums : CountedDays) → AreKept made rows kept.own
+    → AreKept [] rows kept.pooled → HasNoExclusions made m.slo → IsTold kept m sums
+    → SumsAreKept m (made_for pool made) rows sums
+told-either pool made rows kept m sums own pools none (inl found) =
+    for-either pool made rows m sums none (found-own made rows kept.own m sums own found)
+told-either pool made rows kept m sums own pools none (inr told) =
+    for-either pool made rows m sums none
+    (found-pooled made rows kept.pooled m sums pools none told.1)
+
 -- where no entry has the key of an objective, its key isn't there
 pub no-key : (pool : Bool) (kept : List ObjectiveSums) (m : Measure)
     → AllByRecursion (λ (k : ObjectiveSums). key_by pool k.measure ≢ key_by pool m) kept
@@ -173,6 +192,20 @@ pub pooled-else : (made : List (Exclusion × Bool)) (own pool : List ObjectiveSu
     → Contains (keys_by true pool) (pooled m) × HasNoExclusions made m.slo
 pooled-else made own pool m (inl has) none = absurd (none has)
 pooled-else made own pool m (inr has) none = has
+
+-- where nothing is excluded for an SLO, sums of it may be given up for which pooled ones are kept
+pub pooled-again : (made : List (Exclusion × Bool)) (old new pool : List ObjectiveSums)
+    (slo : List ℕ) → HasNoExclusions made slo
+    → ((m : Measure) → Contains (keys_by false old) (counted m)
+    → Contains (keys_by false new) (counted m) ⊎ IsPooledFor pool slo m)
+    → (m : Measure) → HasSums made old pool m → HasSums made new pool m
+pooled-again made old new pool slo none left m (inl has) = by (left m has)
+  where
+    by : Contains (keys_by false new) (counted m) ⊎ IsPooledFor pool slo m
+        → HasSums made new pool m
+    by (inl still) = inl still
+    by (inr again) = inr (again.there, subst (HasNoExclusions made) (sym again.named) none)
+pooled-again made old new pool slo none left m (inr has) = inr has
 
 -- the sums of an objective are those of its rows
 pub told-kept : (made : List (Exclusion × Bool)) (rows : List Row) (kept : KeptObjectives)

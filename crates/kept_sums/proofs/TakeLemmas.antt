@@ -83,6 +83,39 @@ module _ {X K F : Type 0} (key : X → K) (R : F → X → Bool → F → Type 0
       subst (λ (zs : List X). Contains (map key zs) m) (sym k.4)
       (there_left k.0 xs k.1 m at.0 k.2 k.3 want at.1 at.2)
 
+either_behind : {K : Type 0} (G : Type 0) (y : K) (ks : List K) (m : K) → Contains ks m ⊎ G →
+    Contains (y ∷ ks) m ⊎ G
+either_behind G y ks m (inl at) = inl (contains_behind y ks m at)
+either_behind G y ks m (inr gone) = inr gone
+
+module _ {X K F : Type 0} (key : X → K) (R : F → X → Bool → F → Type 0) (Gone : K → Type 0) (f : F)
+    (h : (x : X) (b : Bool) (g : F) → R f x b g → (b ≡ false → Gone (key x)) × (g ≡ f)) where
+  left_or_gone : (bs : List Bool) (xs : List X) (q : F) (m : K) (k : ℕ) →
+      length bs ≡ length xs → ReturnsInTurn R f bs xs q → k < length (map key xs) →
+      slice_index_or (map key xs) k m ≡ m →
+      Contains (map key (items_where_true bs xs)) m ⊎ Gone m
+  left_or_gone bs [] q m k len t less same = absurd (omega (arith, less))
+  left_or_gone [] (x ∷ xs) q m k len t less same = absurd (omega (arith, len))
+  left_or_gone (true ∷ bs) (x ∷ xs) q m zero len t less same = inl (0, omega arith, same)
+  left_or_gone (false ∷ bs) (x ∷ xs) q m zero len t less same =
+      inr (subst Gone same ((h x false t.0 t.1).0 refl))
+  left_or_gone (true ∷ bs) (x ∷ xs) q m (suc k) len t less same =
+      either_behind (Gone m) (key x) (map key (items_where_true bs xs)) m
+      (left_or_gone bs xs q m k (omega (arith, len))
+      (subst (λ (y : F). ReturnsInTurn R y bs xs q) (h x true t.0 t.1).1 t.2)
+      (omega (arith, less)) same)
+  left_or_gone (false ∷ bs) (x ∷ xs) q m (suc k) len t less same =
+      left_or_gone bs xs q m k (omega (arith, len))
+      (subst (λ (y : F). ReturnsInTurn R y bs xs q) (h x false t.0 t.1).1 t.2)
+      (omega (arith, less)) same
+
+  -- what was there stays, or is one of those that went
+  pub retained_or_gone : (xs ys : List X) → IsFiltered R f xs ys → (m : K) →
+      Contains (map key xs) m → Contains (map key ys) m ⊎ Gone m
+  retained_or_gone xs ys k m at =
+      subst (λ (zs : List X). Contains (map key zs) m ⊎ Gone m) (sym k.4)
+      (left_or_gone k.0 xs k.1 m at.0 k.2 k.3 at.1 at.2)
+
 pub retained_each : {X F : Type 0} (R : F → X → Bool → F → Type 0) (f : F) (P : X → Type 0)
     (xs ys : List X) → IsFiltered R f xs ys → AllByRecursion P xs → AllByRecursion P ys
 retained_each R f P xs ys k all = subst (AllByRecursion P) (sym k.4) (each_left P k.0 xs all)

@@ -81,6 +81,11 @@ HasSums made own pool m =
     Contains (keys_by false own) (counted m)
     ⊎ (Contains (keys_by true pool) (pooled m) × HasNoExclusions made m.slo)
 
+-- an objective of an SLO has pooled sums
+pub record IsPooledFor (kept : List ObjectiveSums) (slo : List ℕ) (m : Measure) : Type 0 where
+  pub named : m.slo ≡ slo
+  pub there : Contains (keys_by true kept) (pooled m)
+
 -- each objective of an SLO has sums of its own
 abbrev pub HaveOwn : List Object → List ObjectiveSums → List ℕ → Type 0
 HaveOwn members own slo =

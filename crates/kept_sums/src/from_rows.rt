@@ -20,7 +20,7 @@ use window_sums::WindowSums;
 /// # Errors
 ///
 /// Memory ran out.
-pub fn sums_over(
+pub(crate) fn sums_over(
     alloc: Global,
     measure: &Measure,
     pool: bool,

@@ -14,12 +14,13 @@ mod follow;
 mod from_rows;
 mod kept;
 pub mod laws;
+mod new_sums;
 mod plan;
+mod pool_again;
 mod range;
 mod same;
 
 pub use counting::{NO_COUNTS, changes_counts, excludes_minute, row_at, row_counts};
-pub use from_rows::sums_over;
 pub use kept::{KeptSums, ObjectiveSums};
 pub use plan::{ListPlan, SumsPlan, is_wanted};
 pub use same::{has_same_key, is_same_measure};
