@@ -13,7 +13,7 @@ ghost use Rattle.window_sums.specs.Slices.{width_of};
 ghost use Rattle.catalog_changes.specs.Wanted.{ArePlanned, HasWanted};
 
 use crate::objectives::objectives_of;
-use kept_sums::{ListPlan, ObjectiveSums, SumsPlan, is_wanted, sums_over};
+use kept_sums::{ListPlan, ObjectiveSums, SumsPlan, is_wanted};
 use office_derived::Derived;
 use office_history::Measure;
 use slo_catalog::Catalog;
@@ -59,7 +59,7 @@ fn want(
     if kept {
         return Ok(());
     }
-    let sums = sums_over(alloc, measure, pool, &derived.book)?;
+    let sums = derived.sums.new_sums(alloc, measure, pool, &derived.book)?;
     list.made.push(ObjectiveSums {
         measure: *measure,
         sums,
@@ -131,8 +131,8 @@ fn plan_for(
 }
 
 /// What becomes of the sums that are kept as a catalog takes the place of the one that is kept: the
-/// sums that its objectives have, and those of them that aren't kept yet, made from the rows of
-/// their indicators. It reads each row of the book.
+/// sums that its objectives have, and those of them that aren't kept yet, copied or made from the
+/// rows of their indicators. It reads each row of the book.
 ///
 /// # Errors
 ///
