@@ -1,6 +1,7 @@
 -- What is kept after an exclusion or a lifting.
 use Rattle.std.proofs.Common.{◌≡◌, ℕ, ◌+◌, ◌<◌, ◌||◌, ◌++◌, List, [], false, fold, refl, ap, sym}
 use Rattle.std.proofs.Common.{◌∙◌}
+use Rattle.std.specs.List.{AllByRecursion}
 use Rattle.std.proofs.lemmas.List.{append-nil}
 use Rattle.slo_limits.specs.declared.TheConstants as most
 use Rattle.sample_book.specs.declared.Row.{Row}
@@ -15,7 +16,9 @@ use Rattle.office_history.specs.Zones.{zones_of}
 use Rattle.office_derived.specs.declared.Derived.{Derived}
 use Rattle.office_derived.specs.declared.Work.{Work}
 use Rattle.office_history.specs.declared.Measure.{Measure}
-use Rattle.kept_sums.specs.Objectives.{AreKept, HasSums, IsObjective, KeptObjectives, measures_of}
+use Rattle.kept_sums.specs.Objectives.{AreKept, HasSums, IsLike, IsObjective, KeptObjectives}
+use Rattle.kept_sums.specs.Objectives.{measures_of}
+use Rattle.kept_sums.specs.declared.ObjectiveSums.{ObjectiveSums}
 use Rattle.office_derived.specs.Derived.{IsNext, IsSound, Reflects, command_of, entry_of}
 use Rattle.office_derived.proofs.Still.{IsStill, reflects_still}
 use Rattle.sample_changes.proofs.Following.{change_followed}
@@ -48,16 +51,17 @@ change_reflected d book sums o moment work next only held =
     (accepted_still d o next.reflects
     ∙ ap (λ (rows : List Row). accepted_rows (rows_in o.history ++ rows)) (sym only.no_row))
 
--- it agrees in itself, where the sums have followed
-pub change_sound : (d : Derived) (book : Book) (sums : KeptObjectives) (moment : ℕ) → IsSound d →
-    d.entries < most.MAX_ENTRIES → book.rows ≡ d.book.rows →
-    measures_of sums.own ≡ measures_of d.sums.own → sums.pooled ≡ d.sums.pooled →
-    AreKept book.exclusions book.rows sums.own →
+-- it agrees in itself, where those sums have followed that were left
+pub change_sound : (d : Derived) (book : Book) (left sums : KeptObjectives) (moment : ℕ) →
+    IsSound d → d.entries < most.MAX_ENTRIES → book.rows ≡ d.book.rows →
+    AllByRecursion (λ (k : ObjectiveSums). IsLike d.catalog false k.measure) left.own →
+    left.pooled ≡ d.sums.pooled → measures_of sums.own ≡ measures_of left.own →
+    sums.pooled ≡ left.pooled → AreKept book.exclusions book.rows sums.own →
     ((m : Measure) → IsObjective d.catalog m →
     HasSums d.book.exclusions d.sums.own d.sums.pooled m
-    → HasSums book.exclusions d.sums.own d.sums.pooled m) →
+    → HasSums book.exclusions left.own left.pooled m) →
     IsSound (changed d book sums moment)
-change_sound d book sums moment sound few rows measures pool are still =
+change_sound d book left sums moment sound few rows only stays measures pool are still =
     let d' = changed d book sums moment in
     sound_still d d' sound few refl refl refl refl rows refl refl
-    (change_followed d d' sound refl rows measures pool are still)
+    (change_followed d d' left sound refl rows only stays measures pool are still)

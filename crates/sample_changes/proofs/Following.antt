@@ -56,28 +56,28 @@ same_keys : (pool : Bool) (old new : List ObjectiveSums) → measures_of new ≡
 same_keys pool old new same =
     keys_measures pool new ∙ ap (map (key_by pool)) same ∙ sym (keys_measures pool old)
 
--- where what is counted stays, and each objective still has sums, they are kept of all of them
-pub still_sums : (members : List Object) (made made' : List (Exclusion × Bool))
-    (rows rows' : List Row) (old new : KeptObjectives) → measures_of new.own ≡ measures_of old.own →
-    measures_of new.pooled ≡ measures_of old.pooled → AreKept made' rows' new.own →
-    AreKept [] rows' new.pooled →
-    ((m : Measure) → IsObjective members m → HasSums made old.own old.pooled m
-    → HasSums made' old.own old.pooled m) →
-    KeepsSums members made rows old → KeepsSums members made' rows' new
-still_sums members made made' rows rows' old new own pool are pooled_are still keeps = record {
+-- sums that follow what happens, and of which each objective has some, are kept of all of them
+pub followed_sums : (members : List Object) (made : List (Exclusion × Bool)) (rows : List Row)
+    (old new : KeptObjectives)
+    → AllByRecursion (λ (k : ObjectiveSums). IsLike members false k.measure) old.own
+    → AllByRecursion (λ (k : ObjectiveSums). IsLike members true k.measure) old.pooled
+    → measures_of new.own ≡ measures_of old.own → measures_of new.pooled ≡ measures_of old.pooled
+    → AreKept made rows new.own → AreKept [] rows new.pooled
+    → ((m : Measure) → IsObjective members m → HasSums made old.own old.pooled m)
+    → KeepsSums members made rows new
+followed_sums members made rows old new own_only pooled_only own pool are pooled_are all = record {
   own = are;
   pooled = pooled_are;
   own_only = by_measures (IsLike members false) new.own
       (subst (AllByRecursion (IsLike members false)) (sym own)
-      (of_measures (IsLike members false) old.own keeps.own_only));
+      (of_measures (IsLike members false) old.own own_only));
   pooled_only = by_measures (IsLike members true) new.pooled
       (subst (AllByRecursion (IsLike members true)) (sym pool)
-      (of_measures (IsLike members true) old.pooled keeps.pooled_only));
-  all = λ m is. moved m (still m is (keeps.all m is));
+      (of_measures (IsLike members true) old.pooled pooled_only));
+  all = λ m is. moved m (all m is);
 }
   where
-    moved : (m : Measure) → HasSums made' old.own old.pooled m
-        → HasSums made' new.own new.pooled m
+    moved : (m : Measure) → HasSums made old.own old.pooled m → HasSums made new.own new.pooled m
     moved m (inl has) =
         inl (subst (λ (ks : List Measure). Contains ks (counted m))
         (sym (same_keys false old.own new.own own)) has)
@@ -86,6 +86,18 @@ still_sums members made made' rows rows' old new own pool are pooled_are still k
           (sym (same_keys true old.pooled new.pooled pool)) has.0,
       has.1,
     )
+
+-- so it is where what is counted stays, and each objective still has sums
+pub still_sums : (members : List Object) (made made' : List (Exclusion × Bool))
+    (rows rows' : List Row) (old new : KeptObjectives) → measures_of new.own ≡ measures_of old.own →
+    measures_of new.pooled ≡ measures_of old.pooled → AreKept made' rows' new.own →
+    AreKept [] rows' new.pooled →
+    ((m : Measure) → IsObjective members m → HasSums made old.own old.pooled m
+    → HasSums made' old.own old.pooled m) →
+    KeepsSums members made rows old → KeepsSums members made' rows' new
+still_sums members made made' rows rows' old new own pool are pooled_are still keeps =
+    followed_sums members made' rows' old new keeps.own_only keeps.pooled_only own pool are
+    pooled_are (λ m is. still m is (keeps.all m is))
 
 -- an exclusion leaves sums to each objective, where those of its SLO have sums of their own
 pub excluded_still : (members : List Object) (made : List (Exclusion × Bool)) (value : Exclusion)
@@ -224,22 +236,26 @@ batch_followed d d' o m rows tally becomes s n r' catalog made own pool are pool
     (current_rows (d.book.rows ++ rows)) d.sums d'.sums own pool are pooled_are
     (λ m is has. has) s.sums)))
 
--- the sums have followed an exclusion or a lifting
-pub change_followed : (d d' : Derived) → IsSound d → d'.catalog ≡ d.catalog →
-    d'.book.rows ≡ d.book.rows → measures_of d'.sums.own ≡ measures_of d.sums.own →
-    d'.sums.pooled ≡ d.sums.pooled → AreKept d'.book.exclusions d'.book.rows d'.sums.own →
+-- the sums that were left have followed an exclusion or a lifting
+pub change_followed : (d d' : Derived) (left : KeptObjectives) → IsSound d →
+    d'.catalog ≡ d.catalog → d'.book.rows ≡ d.book.rows →
+    AllByRecursion (λ (k : ObjectiveSums). IsLike d.catalog false k.measure) left.own →
+    left.pooled ≡ d.sums.pooled → measures_of d'.sums.own ≡ measures_of left.own →
+    d'.sums.pooled ≡ left.pooled → AreKept d'.book.exclusions d'.book.rows d'.sums.own →
     ((m : Measure) → IsObjective d.catalog m →
     HasSums d.book.exclusions d.sums.own d.sums.pooled m
-    → HasSums d'.book.exclusions d.sums.own d.sums.pooled m) →
+    → HasSums d'.book.exclusions left.own left.pooled m) →
     KeepsSums d'.catalog d'.book.exclusions d'.book.rows d'.sums
-change_followed d d' s catalog rows own pool are still =
+change_followed d d' left s catalog rows only stays own pool are still =
     subst (λ (members : List Object). KeepsSums members d'.book.exclusions d'.book.rows
     d'.sums) (sym catalog)
-    (still_sums d.catalog d.book.exclusions d'.book.exclusions d.book.rows d'.book.rows
-    d.sums d'.sums own (ap measures_of pool) are
-    (subst (AreKept [] d'.book.rows) (sym pool)
+    (followed_sums d.catalog d'.book.exclusions d'.book.rows left d'.sums only
+    (subst (AllByRecursion (λ (k : ObjectiveSums). IsLike d.catalog true k.measure)) (sym stays)
+    s.sums.pooled_only)
+    own (ap measures_of pool) are
+    (subst (AreKept [] d'.book.rows) (sym (pool ∙ stays))
     (kept_over [] [] d.book.rows d'.book.rows d.sums.pooled refl rows s.sums.pooled))
-    still s.sums)
+    (λ m is. still m is (s.sums.all m is)))
 
 -- more days leave them as they are
 pub days_made : (members : List Object) (made made' : List (Exclusion × Bool))

@@ -24,7 +24,6 @@ ghost use Rattle.office_derived.specs.Derived.{entry_of};
 use crate::faults::limit;
 use catalog_measures::measures_named;
 use exact_fraction::Label;
-use kept_sums::sums_over;
 use object_terms::Kind;
 use office_derived::{Derived, Verdict, Work, accepted};
 use office_history::{Judgement, Measure};
@@ -141,7 +140,7 @@ fn part(alloc: Global, derived: &mut Derived, measure: &Measure) -> Result<(), A
     if kept {
         return Ok(());
     }
-    let sums = sums_over(alloc, measure, false, &derived.book)?;
+    let sums = derived.sums.new_sums(alloc, measure, false, &derived.book)?;
     derived.sums.add_own(measure, sums)?;
     Ok(())
 }
@@ -231,7 +230,8 @@ fn live_exclusion(book: &SampleBook, id: Label) -> Exclusion
     }
 }
 
-/// Lifts an exclusion, with no memory.
+/// Lifts an exclusion, with no memory. With the last one that is live its SLO gives up its sums
+/// where pooled ones are kept, so that no row is looked at for them.
 pub fn apply_lift(derived: &mut Derived, moment: u32, id: Label) -> Outcome
     requires sound { IsSound derived.old }
     requires next { (o : Office) × IsNext derived.old o moment (works.Lift id) }
@@ -249,6 +249,7 @@ pub fn apply_lift(derived: &mut Derived, moment: u32, id: Label) -> Outcome
     let entry = derived.entries;
     let value = live_exclusion(&derived.book, id);
     derived.book.lift(id);
+    derived.sums.pool_again(&derived.book, value.slo);
     derived.sums.follow_exclusion(&derived.book, &value, false);
     derived.entries = entry + 1;
     derived.present = moment;

@@ -30,9 +30,10 @@ pub returns-clause-sound : goal.returns-clause-sound
 returns-clause-sound c =
     let d = c.args.derived.now in
     let book = c.exclude.new.self in
-    change_sound d book c.follow_exclusion.new.self c.args.moment c.requires.sound
+    change_sound d book d.sums c.follow_exclusion.new.self c.args.moment c.requires.sound
     (exclude_entries d c.requires.next.0 c.args.moment c.args.value c.requires.next.1)
-    c.exclude.ensures.rows c.follow_exclusion.ensures.measures c.follow_exclusion.ensures.pooled
+    c.exclude.ensures.rows c.requires.sound.sums.own_only refl
+    c.follow_exclusion.ensures.measures c.follow_exclusion.ensures.pooled
     (kept_over (made_on d.book.exclusions c.args.value true) book.exclusions d.book.rows book.rows
     c.follow_exclusion.new.self.own c.exclude.ensures.exclusions c.exclude.ensures.rows
     c.follow_exclusion.ensures.kept)

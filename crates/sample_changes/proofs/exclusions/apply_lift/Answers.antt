@@ -1,9 +1,11 @@
-use Rattle.std.proofs.Common.{◌++◌, ◌∷◌, [], refl, sym, subst, true, List}
+use Rattle.std.proofs.Common.{◌++◌, ◌∷◌, [], false, refl, sym, subst, true, List}
+use Rattle.std.proofs.lemmas.List.Elements.{recursion_from_All}
 use Rattle.sample_book.specs.declared.Row.{Row}
 use Rattle.kept_sums.specs.Objectives.{HaveForms}
 use Rattle.office_history.specs.History.{arrivals_in}
 use Rattle.office_derived.specs.declared.Work.TheVariants as works
-use Rattle.office_derived.proofs.FormLemmas.{sound_forms}
+use Rattle.office_derived.specs.Derived.{RowIsRead}
+use Rattle.office_derived.proofs.FormLemmas.{all_forms}
 use Rattle.sample_changes.proofs.ExclusionLemmas.{change_reflected, change_sound}
 use Rattle.sample_changes.proofs.Following.{kept_alike, kept_over, lifted_still, made_anew}
 use Rattle.sample_changes.proofs.Kept.{lift_entries}
@@ -14,17 +16,21 @@ follow_exclusion-requires-clause-kept c =
     let d = c.args.derived.now in
     let value = c.live_exclusion-value.result in
     let anew = c.lift.new.self.exclusions ++ (value, true) ∷ [] in
-    kept_over anew anew d.book.rows c.lift.new.self.rows d.sums.own refl c.lift.ensures.rows
+    c.pool_again.ensures.own anew c.lift.new.self.rows
+    (kept_over anew anew d.book.rows c.lift.new.self.rows d.sums.own refl c.lift.ensures.rows
     (kept_alike d.book.exclusions anew d.book.rows d.sums.own
     (made_anew d.book.exclusions c.lift.new.self.exclusions value
     (λ slo minute. c.lift.ensures.minutes value slo minute c.live_exclusion-value.ensures))
-    c.requires.sound.sums.own)
+    c.requires.sound.sums.own))
 
 pub follow_exclusion-requires-clause-forms : goal.follow_exclusion-requires-clause-forms
 follow_exclusion-requires-clause-forms c =
     let d = c.args.derived.now in
-    subst (λ (rows : List Row). HaveForms rows d.sums.own) (sym c.lift.ensures.rows)
-    (sound_forms d c.requires.sound)
+    let left = c.pool_again.new.self.own in
+    subst (λ (rows : List Row). HaveForms rows left) (sym c.lift.ensures.rows)
+    (all_forms d.catalog false left d.book.rows
+    (c.pool_again.ensures.own_only d.catalog c.requires.sound.sums.own_only)
+    (recursion_from_All (RowIsRead d.catalog) d.book.rows c.requires.sound.read))
 
 pub returns-clause-reflects : goal.returns-clause-reflects
 returns-clause-reflects c o next =
@@ -42,14 +48,18 @@ returns-clause-reflects c o next =
 pub returns-clause-sound : goal.returns-clause-sound
 returns-clause-sound c =
     let d = c.args.derived.now in
-    change_sound d c.lift.new.self c.follow_exclusion.new.self c.args.moment c.requires.sound
+    change_sound d c.lift.new.self c.pool_again.new.self c.follow_exclusion.new.self c.args.moment
+    c.requires.sound
     (lift_entries d c.requires.next.0 c.args.moment c.args.id c.requires.next.1)
-    c.lift.ensures.rows c.follow_exclusion.ensures.measures c.follow_exclusion.ensures.pooled
-    c.follow_exclusion.ensures.kept
+    c.lift.ensures.rows
+    (c.pool_again.ensures.own_only d.catalog c.requires.sound.sums.own_only)
+    c.pool_again.ensures.pooled c.follow_exclusion.ensures.measures
+    c.follow_exclusion.ensures.pooled c.follow_exclusion.ensures.kept
+    (λ m is has. c.pool_again.ensures.all m
     (lifted_still d.catalog d.book.exclusions c.lift.new.self.exclusions
     c.live_exclusion-value.result d.sums.own d.sums.pooled
     (λ slo minute. c.lift.ensures.minutes c.live_exclusion-value.result slo minute
-    c.live_exclusion-value.ensures))
+    c.live_exclusion-value.ensures) m is has))
 
 pub returns-clause-minutes : goal.returns-clause-minutes
 returns-clause-minutes c value slo minute is = c.lift.ensures.minutes value slo minute is

@@ -15,8 +15,8 @@ returns-then-kept-clause-here c = c.has_own-kept.ensures.0 c.if-kept.true
 pub returns-then-kept-clause-stays : goal.returns-then-kept-clause-stays
 returns-then-kept-clause-stays c = stays_so c.args.derived.now
 
-pub sums_over-requires-clause-forms : goal.sums_over-requires-clause-forms
-sums_over-requires-clause-forms c =
+pub new_sums-requires-clause-forms : goal.new_sums-requires-clause-forms
+new_sums-requires-clause-forms c =
     objective_forms c.args.derived.now c.requires.sound c.args.measure.now c.requires.objective
 
 pub returns-in_err-sums-clause-stays : goal.returns-in_err-sums-clause-stays
