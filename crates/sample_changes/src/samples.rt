@@ -1,12 +1,10 @@
 //! Samples: rows that are taken, all of them or none.
-ghost use Rattle.std.specs.Prelude.{◌≡◌, ◌+◌, ◌<◌, ◌≤◌, ◌++◌, ◌∷◌, [], List, Some, None, IfOk};
+ghost use Rattle.std.specs.Prelude.{◌≡◌, ◌+◌, ◌<◌, ◌≤◌, ◌++◌, List, Some, None, IfOk};
 ghost use Rattle.std.specs.Prelude.{OnOk, cond, length, map};
 ghost use Rattle.std.specs.Global.{Vec};
 ghost use Rattle.slo_limits.specs.declared.TheConstants.{MAX_BATCH_ROWS as most_rows};
 ghost use Rattle.sample_book.specs.declared.RowVerdict.{RowVerdict};
-ghost use Rattle.sample_book.specs.Rows.{cell_of, current_rows, verdict_of};
-ghost use Rattle.sample_book.specs.History.{Came, Arrival, Gains, Holds, MayComeAll, MayComeAs};
-ghost use Rattle.sample_book.specs.History.{is_put as is_put_def, room_after};
+ghost use Rattle.sample_book.specs.History.{Came, Arrival, Holds, MayComeAll};
 ghost use Rattle.sample_book.specs.Puts.{verdicts as verdicts_def};
 ghost use Rattle.record_form.specs.declared.Command.TheVariants as commands;
 ghost use Rattle.office_history.specs.History.{Office, with_entry};
@@ -206,31 +204,6 @@ pub fn room_for_samples(derived: &mut Derived, rows: &Rows) -> Result<(), AllocE
     derived.sums.reserve_rows(batch)
 }
 
-fn is_put(verdict: &RowVerdict) -> bool
-    ensures { result ≡ is_put_def verdict.now }
-{
-    match verdict {
-        RowVerdict::New => true,
-        RowVerdict::Newer(_) => true,
-        _ => false,
-    }
-}
-
-/// Puts a row that is new or newer, and passes over another.
-fn put_row(book: &mut SampleBook, row: &Row)
-    requires { MayComeAs (verdict_of book.old.rows row.now) book.old.room (cell_of row.now) }
-    ensures rows { book.new.rows ≡ cond (is_put_def (verdict_of book.old.rows row.now))
-        (current_rows (book.old.rows ++ row.now ∷ [])) book.old.rows }
-    ensures room { book.new.room ≡ room_after (verdict_of book.old.rows row.now) book.old.room }
-    ensures exclusions { book.new.exclusions ≡ book.old.exclusions }
-    ensures history { Gains book.old (Came row.now) book.new }
-{
-    let verdict = book.check(row);
-    if is_put(&verdict) {
-        book.put(row);
-    }
-}
-
 /// Puts the rows of a batch, in order.
 fn put_rows(book: &mut SampleBook, rows: &[Row])
     requires { MayComeAll book.old.rows book.old.room rows.now }
@@ -239,7 +212,7 @@ fn put_rows(book: &mut SampleBook, rows: &[Row])
     ensures exclusions { book.new.exclusions ≡ book.old.exclusions }
 {
     for row in rows {
-        put_row(book, row);
+        book.take(row);
     }
 }
 
