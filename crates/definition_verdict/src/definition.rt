@@ -14,7 +14,7 @@ use crate::starts::one_begins_too_often;
 use crate::zones::first_unknown_zone;
 use catalog_terms::DefineError;
 use exact_fraction::ZoneName;
-use object_terms::Object;
+use object_terms::Objects;
 use record_form::{LimitName, Refusal};
 use sample_book::SampleBook;
 use slo_catalog::{Catalog, Proposal, propose};
@@ -72,17 +72,21 @@ fn judge_objects(
     zones: &[ZoneName],
     book: &SampleBook,
     horizon: u32,
-    objects: &[Object],
+    objects: Objects,
 ) -> Result<(Catalog, bool), VerdictError>
     requires horizon { horizon < 2 ^ 27 }
-    requires documents { All IsOfDocument objects.now }
+    requires documents { All IsOfDocument objects }
     ensures ok { IfOk result
-        (λ made. defined_over (known catalog.now zones.now book.now.rows horizon) objects.now ≡ Ok
+        (λ made. defined_over (known catalog.now zones.now book.now.rows horizon) objects ≡ Ok
         made.0) }
-    ensures same { IfOk result (λ made. made.1 ≡ is_unchanged catalog.now objects.now) }
+    ensures same { IfOk result (λ made. made.1 ≡ is_unchanged catalog.now objects) }
     ensures refused { (refusal : Refusal) → result ≡ Err (VerdictError.Refused refusal) →
-        defined_over (known catalog.now zones.now book.now.rows horizon) objects.now ≡ Err refusal }
+        defined_over (known catalog.now zones.now book.now.rows horizon) objects ≡ Err refusal }
 {
+    // The objects go into what is proposed: what else is asked of them is asked before, and counts
+    // behind the faults of the catalog.
+    let unknown = first_unknown_zone(zones, objects.as_slice());
+    let read_anew = first_read_anew(catalog, book, objects.as_slice());
     let proposal = match propose(alloc, catalog, objects) {
         Ok(proposal) => proposal,
         Err(DefineError::Fault(fault)) => {
@@ -90,10 +94,10 @@ fn judge_objects(
         }
         Err(DefineError::NoMemory) => return Err(VerdictError::NoMemory),
     };
-    if let Some(name) = first_unknown_zone(zones, objects) {
+    if let Some(name) = unknown {
         return Err(VerdictError::Refused(Refusal::UnknownZone { name }));
     }
-    if let Some(row) = first_read_anew(catalog, book, objects) {
+    if let Some(row) = read_anew {
         return Err(VerdictError::Refused(Refusal::HasSamples {
             minute: row.minute,
             name: row.sli,
@@ -143,14 +147,15 @@ pub fn judge_definition(
         Err(DocumentsError::Refused(refusal)) => return Err(VerdictError::Refused(refusal)),
         Err(DocumentsError::NoMemory) => return Err(VerdictError::NoMemory),
     };
-    // The catalog copies the objects: the nodes that they were read from are let go before.
+    // The catalog has the objects: the nodes that they were read from are let go before.
     let documents = nodes.len();
     drop(nodes);
-    match judge_objects(alloc, catalog, zones, book, horizon, objects.as_slice()) {
+    let count = objects.as_slice().len();
+    match judge_objects(alloc, catalog, zones, book, horizon, objects) {
         Ok((after, same)) => Ok(Definition {
             catalog: after,
             documents,
-            objects: objects.as_slice().len(),
+            objects: count,
             same,
         }),
         Err(error) => Err(error),

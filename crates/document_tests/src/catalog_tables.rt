@@ -77,7 +77,7 @@ pub(crate) fn after_definition(
     text: &str,
 ) -> Result<Catalog, String> {
     let objects = objects_of(rt, alloc, text);
-    match define(alloc, old, objects.as_slice()) {
+    match define(alloc, old, objects) {
         Ok(catalog) => Ok(catalog),
         Err(DefineError::Fault(fault)) => Err(fault_text(rt, alloc, &fault)),
         Err(DefineError::NoMemory) => Err(String::new(alloc)),

@@ -18,7 +18,7 @@ use crate::proposal::Proposal;
 use crate::reference::{first_unresolved, is_built_in};
 use crate::same::are_alike;
 use catalog_terms::{CatalogFault, DefineError};
-use object_terms::{Kind, Object};
+use object_terms::{Kind, Object, Objects};
 use std::alloc::Global;
 
 /// Whether an object is an alert policy with the name of one that is always there.
@@ -79,20 +79,19 @@ fn joined(alloc: Global, old: &Members, objects: &[Member]) -> Result<Members, D
 }
 
 /// What is there with the objects of a text, each of which replaces the member of its kind and
-/// name, before the limits are tried. Each object is copied once, and the members that stay are
-/// shared.
+/// name, before the limits are tried. The objects move there, and the members that stay are shared.
 ///
 /// # Errors
 ///
 /// The first fault, in the order of [`CatalogFault`] and but for the limits: each names the first
 /// place that breaks its rule. Or memory ran out.
-pub fn propose(alloc: Global, old: &Catalog, objects: &[Object]) -> Result<Proposal, DefineError>
-    requires { All IsOfDocument objects.now }
-    ensures exact { Proposes result (proposed_members old.now objects.now) }
-    ensures same { IfOk result (λ proposal. proposal.1 ≡ is_unchanged old.now objects.now) }
+pub fn propose(alloc: Global, old: &Catalog, objects: Objects) -> Result<Proposal, DefineError>
+    requires { All IsOfDocument objects }
+    ensures exact { Proposes result (proposed_members old.now objects) }
+    ensures same { IfOk result (λ proposal. proposal.1 ≡ is_unchanged old.now objects) }
 {
-    let objects = members_of(alloc, objects)?;
-    let objects = objects.as_slice();
+    let members = members_of(alloc, objects)?;
+    let objects = members.as_slice();
     match joined(alloc, old.sorted(), objects) {
         Ok(members) => {
             let same = are_alike(alloc, old.sorted(), objects)?;
@@ -103,9 +102,9 @@ pub fn propose(alloc: Global, old: &Catalog, objects: &[Object]) -> Result<Propo
 }
 
 /// What is proposed, where it is within the limits.
-fn defined_by(alloc: Global, old: &Catalog, objects: &[Object]) -> Result<Catalog, DefineError>
-    requires { All IsOfDocument objects.now }
-    ensures { Defines result (defined_members old.now objects.now) }
+fn defined_by(alloc: Global, old: &Catalog, objects: Objects) -> Result<Catalog, DefineError>
+    requires { All IsOfDocument objects }
+    ensures { Defines result (defined_members old.now objects) }
 {
     match propose(alloc, old, objects) {
         Ok(proposal) => proposal.admitted(alloc),
@@ -119,11 +118,11 @@ fn defined_by(alloc: Global, old: &Catalog, objects: &[Object]) -> Result<Catalo
 ///
 /// The first fault, in the order of [`CatalogFault`]: each names the first place that breaks its
 /// rule. Or memory ran out.
-pub fn define(alloc: Global, old: &Catalog, objects: &[Object]) -> Result<Catalog, DefineError>
-    requires { All IsOfDocument objects.now }
-    ensures exact { Defines result (defined_members old.now objects.now) }
+pub fn define(alloc: Global, old: &Catalog, objects: Objects) -> Result<Catalog, DefineError>
+    requires { All IsOfDocument objects }
+    ensures exact { Defines result (defined_members old.now objects) }
     ensures history { (changes : List Change) → IsCatalog changes old.now
-        → IfOk result (λ catalog. IsCatalog (changes ++ map Defined objects.now) catalog) }
+        → IfOk result (λ catalog. IsCatalog (changes ++ map Defined objects) catalog) }
 {
     defined_by(alloc, old, objects)
 }

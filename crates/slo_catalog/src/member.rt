@@ -4,8 +4,8 @@ ghost use Rattle.std.specs.List.{All};
 ghost use Rattle.object_terms.specs.Document.{IsOfDocument};
 ghost use Rattle.catalog_terms.specs.Limits.{weight as weight_def};
 
-use object_terms::Object;
-use object_writing::{copy_object, object_length};
+use object_terms::{Object, Objects};
+use object_writing::object_length;
 use slo_limits::MAX_CATALOG_BYTES;
 use std::alloc::{AllocError, Global};
 use std::marker::Model;
@@ -54,13 +54,13 @@ impl Member {
     ghost use Rattle.object_terms.specs.Document.{IsOfDocument};
     ghost use Rattle.catalog_terms.specs.Limits.{weight as weight_def};
 
-    /// A member that is a copy of an object, which is weighed once, here.
-    pub(crate) fn of(alloc: Global, object: &Object) -> Result<Member, AllocError>
-        requires { IsOfDocument object.now }
-        ensures { IfOk result (λ member. member ≡ object.now) }
+    /// A member that is an object, which is weighed once, here.
+    pub(crate) fn of(alloc: Global, object: Object) -> Result<Member, AllocError>
+        requires { IsOfDocument object }
+        ensures { IfOk result (λ member. member ≡ object) }
     {
-        let weight = weight(alloc, object)?;
-        let object = Arc::new(alloc, copy_object(alloc, object)?)?;
+        let object = Arc::new(alloc, object)?;
+        let weight = weight(alloc, &object)?;
         Ok(Member { object, weight })
     }
 
@@ -92,13 +92,13 @@ impl Member {
     }
 }
 
-/// Members that are copies of objects, in their order.
-pub(crate) fn members_of(alloc: Global, objects: &[Object]) -> Result<Vec<Member>, AllocError>
-    requires { All IsOfDocument objects.now }
-    ensures { IfOk result (λ members. members.items ≡ objects.now) }
+/// Members that are these objects, in their order.
+pub(crate) fn members_of(alloc: Global, objects: Objects) -> Result<Vec<Member>, AllocError>
+    requires { All IsOfDocument objects }
+    ensures { IfOk result (λ members. members.items ≡ objects) }
 {
     let mut members = Vec::new(alloc);
-    for object in objects {
+    for object in objects.into_items() {
         members.push(Member::of(alloc, object)?)?;
     }
     Ok(members)

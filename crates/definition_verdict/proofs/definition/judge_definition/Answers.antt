@@ -41,19 +41,20 @@ returns-in-Err-Refused-clause-refused c = λ refusal e.
 pub judge_objects-requires-clause-documents : goal.judge_objects-requires-clause-documents
 judge_objects-requires-clause-documents c =
     let nodes = nodes_view c.in-Ok.nodes.items in
-    let objects = c.objects.inside.items.items in
+    let objects = c.in-Ok-objects_in.objects in
     let whole : objects_in nodes ≡ Ok objects = search rules in
     let all : All IsOfDocument objects =
     all_of_documents nodes objects c.in-Ok.ensures.writable whole in
     search (rules, all)
 
 -- the objects can't be defined
-pub returns-clause-refused : goal.returns-clause-refused
-returns-clause-refused c = λ refusal e.
+pub returns-in-Err-clause-refused : goal.returns-in-Err-clause-refused
+returns-in-Err-clause-refused c = λ refusal e.
     let office = known c.args.catalog.now c.args.zones.now c.args.book.now.rows c.args.horizon in
     let nodes = nodes_view c.in-Ok.nodes.items in
-    let objects = c.objects.inside.items.items in
+    let objects = c.in-Ok-objects_in.objects in
     let whole : objects_in nodes ≡ Ok objects = search rules in
-    let stopped : c.judge_objects.result ≡ Err (Refused refusal) = search rules in
-    let why : defined_over office objects ≡ Err refusal = search rules in
+    let is : c.in-Err.error ≡ Refused refusal = cc e in
+    let why : defined_over office objects ≡ Err refusal =
+    c.in-Err.ensures.refused refusal (ap Err is) in
     refused_objects office c.args.text.now nodes objects refusal c.in-Ok.ensures.ok whole why

@@ -3,4 +3,4 @@ use Rattle.slo_catalog.proofs.definition.define.Goals as goal
 
 pub returns-clause-history : goal.returns-clause-history
 returns-clause-history c =
-    history_of c.args.old.now c.args.objects.now c.defined_by.result c.defined_by.ensures
+    history_of c.args.old.now c.args.objects c.defined_by.result c.defined_by.ensures
