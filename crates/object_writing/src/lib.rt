@@ -1,10 +1,8 @@
-//! How an object is written, how many bytes its text has, and its copy.
+//! How an object is written, and how many bytes its text has.
 //! Stands on the words of objects and their laws, and on the writing of nodes.
-//! Promises the canonical text of each object of a document, and copies that are the object.
+//! Promises the canonical text of each object of a document.
 #![tactic(auto)]
 
-mod copy;
 mod writing;
 
-pub use copy::copy_object;
 pub use writing::{object_length, write_object};
