@@ -54,21 +54,21 @@ fn has_condition(members: &Members, name: &Label) -> bool
     is_built_in(name) || lists_condition(members, *name)
 }
 
-/// Those of the policies that have a condition.
-fn policies_with_condition(
-    alloc: Global,
+/// Lists those of the policies that have a condition, in place of what was listed before.
+fn list_with_condition(
+    kept: &mut Vec<Label>,
     members: &Members,
     names: &[Label],
-) -> Result<Vec<Label>, AllocError>
-    ensures { IfOk result (λ kept. kept.items ≡ filter (has_condition_def members.now) names.now) }
+) -> Result<(), AllocError>
+    ensures { OnOk result (kept.new.items ≡ filter (has_condition_def members.now) names.now) }
 {
-    let mut kept = Vec::new(alloc);
+    kept.clear();
     for name in names {
         if has_condition(members, name) {
             kept.push(*name)?;
         }
     }
-    Ok(kept)
+    Ok(())
 }
 
 /// Adds the bindings of one objective.
@@ -110,10 +110,10 @@ fn bind_each(
     Ok(())
 }
 
-/// Adds the bindings of an SLO.
+/// Adds the bindings of an SLO, whose policies are listed anew.
 fn bind_slo(
     bindings: &mut Vec<Binding>,
-    alloc: Global,
+    policies: &mut Vec<Label>,
     members: &Members,
     name: &Label,
     slo: &Slo,
@@ -121,14 +121,14 @@ fn bind_slo(
     ensures { OnOk result (bindings.new.items
         ≡ bindings.old.items ++ bindings_in members.now name.now (Some slo.now)) }
 {
-    let policies = policies_with_condition(alloc, members, names_in(&slo.alert_policies))?;
-    bind_each(bindings, name, &policies, objectives_of(slo))
+    list_with_condition(policies, members, names_in(&slo.alert_policies))?;
+    bind_each(bindings, name, policies, objectives_of(slo))
 }
 
 /// Adds the bindings of an object, which has some where it is an SLO.
 fn bind_object(
     bindings: &mut Vec<Binding>,
-    alloc: Global,
+    policies: &mut Vec<Label>,
     members: &Members,
     object: &Object,
 ) -> Result<(), AllocError>
@@ -137,7 +137,7 @@ fn bind_object(
         (slo_in_def object.now.body)) }
 {
     match slo_in(&object.body) {
-        Some(slo) => bind_slo(bindings, alloc, members, &object.name, slo),
+        Some(slo) => bind_slo(bindings, policies, members, &object.name, slo),
         None => Ok(()),
     }
 }
@@ -147,8 +147,9 @@ pub(crate) fn bindings_of(alloc: Global, members: &Members) -> Result<Vec<Bindin
     ensures { IfOk result (λ bindings. bindings.items ≡ bindings_def members.now) }
 {
     let mut bindings = Vec::new(alloc);
+    let mut policies = Vec::new(alloc);
     for member in members.as_slice() {
-        bind_object(&mut bindings, alloc, members, member.object())?;
+        bind_object(&mut bindings, &mut policies, members, member.object())?;
     }
     Ok(bindings)
 }
