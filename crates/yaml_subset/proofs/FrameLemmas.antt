@@ -1,11 +1,13 @@
 -- Frames, closed.
 use Rattle.std.proofs.Common.{◌≡◌, ℕ, List, [], ◌∷◌, ◌++◌, map, refl, ap, length, ◌<◌, Bool, true}
-use Rattle.std.proofs.Common.{false, ◌||◌, arith}
+use Rattle.std.proofs.Common.{false, ◌||◌, arith, not, sym, ◌∙◌, Option, None}
+use Rattle.std.proofs.lemmas.List.{map-append}
 use Rattle.std.specs.List.{list_any}
 use Rattle.std.specs.Str.{bytes_eq}
 use Rattle.yaml_terms.specs.Tree.{Tree, mapping, sequence, trees, entry}
 use Rattle.yaml_terms.specs.Mark.{Mark, dash, key}
-use Rattle.yaml_terms.specs.Profile.{collection, entries, is_key}
+use Rattle.yaml_terms.specs.Profile.{collection, entries, is_key, is_repeated, with_child, no_text}
+use Rattle.yaml_terms.specs.Profile.{or_no_text}
 use Rattle.yaml_terms.specs.NodeView.{node_view, entries_of}
 use Rattle.yaml_subset.specs.OpenView.{child, entry_child}
 use Rattle.yaml_terms.specs.declared.ScalarText.{ScalarText}
@@ -53,3 +55,30 @@ repeated_entries n m (e ∷ es) k next x =
     or_behind : (a b c d : Bool) → (b || c) ≡ d → ((a || b) || c) ≡ (a || d)
     or_behind true b c d e = refl
     or_behind false b c d e = e
+
+known : (b : Bool) → false ≡ not b → b ≡ true
+known true e = refl
+known false e = absurd (cc e)
+
+fresh : (b : Bool) → true ≡ not b → b ≡ false
+fresh true e = absurd (cc e)
+fresh false e = refl
+
+-- a key that a map has already, or the open one, is repeated, and no other is
+pub repeated_known : (n : ℕ) (es : List (ScalarText × Node)) (k next : List ℕ)
+    → false ≡ not (list_any (λ p. bytes_eq next p.0) es || bytes_eq next k)
+    → is_repeated (key n next) (with_child (map (entry_child n) es) (key n k) None) ≡ true
+repeated_known n es k next e = sym (repeated_entries n n es k next no_text) ∙ known _ e
+
+pub not_repeated : (n : ℕ) (es : List (ScalarText × Node)) (k next : List ℕ)
+    → true ≡ not (list_any (λ p. bytes_eq next p.0) es || bytes_eq next k)
+    → is_repeated (key n next) (with_child (map (entry_child n) es) (key n k) None) ≡ false
+not_repeated n es k next e = sym (repeated_entries n n es k next no_text) ∙ fresh _ e
+
+-- the children of the entries and one more
+pub entry_more : (n : ℕ) (es : List (ScalarText × Node)) (k : ScalarText) (x : Node)
+    (v : Option Tree)
+    → node_view x ≡ or_no_text v → map (entry_child n) (es ++ (k, x) ∷ [])
+    ≡ with_child (map (entry_child n) es) (key n k) v
+entry_more n es k x v e = map-append (entry_child n) es ((k, x) ∷ [])
+    ∙ ap (λ (t : Tree). map (entry_child n) es ++ (record { mark = key n k; tree = t } ∷ [])) e

@@ -2,10 +2,11 @@
 use Rattle.std.proofs.Common.{◌≡◌, ℕ, zero, suc, pred, ◌+◌, ◌-◌, ◌<◌, ◌≤◌, Bool, true, false, ◌||◌}
 use Rattle.std.proofs.Common.{List, [], ◌∷◌, ◌++◌, Option, Some, None, cond, length, take, drop}
 use Rattle.std.proofs.Common.{get_or, map, option_map, refl, sym, ap, ◌∙◌, append_assoc, add-one}
-use Rattle.std.proofs.Common.{sub-one, arith}
-use Rattle.std.proofs.lemmas.Bool.{false≢true}
+use Rattle.std.proofs.Common.{sub-one, subst, arith, ◌==◌}
+use Rattle.std.proofs.lemmas.Bool.{eqb-true, false≢true}
+use Rattle.std.specs.Global.{Vec}
 use Rattle.std.proofs.lemmas.Bool.Decides.{nat_tests}
-use Rattle.std.specs.Prelude.{nat_lt}
+use Rattle.std.specs.Prelude.{nat_lt, is_none}
 use Rattle.yaml_terms.specs.declared.ProfileFault.TheVariants.{Indent, Colon, DuplicateKey, TooDeep}
 use Rattle.std.proofs.Math.Seq.{drop-cons}
 use Rattle.std.proofs.lemmas.List.{drop_all, drop-append-le, take-append-le, take-take, take_all}
@@ -22,7 +23,7 @@ use Rattle.yaml_terms.specs.Fault.{repeats, begins, column, same_column, is_at_o
 use Rattle.yaml_subset.specs.OpenView.{head_of, done_of, open_of, next_place, last_head, last_view}
 use Rattle.yaml_subset.specs.OpenView.{stream_of, child, entry_child, any_at, is_nothing}
 use Rattle.yaml_lines.specs.BlockView.{block_view}
-use Rattle.yaml_subset.specs.OpenView.{BeginsAs}
+use Rattle.yaml_subset.specs.OpenView.{BeginsAs, GoesOn}
 use Rattle.std.proofs.Common.{Result, Ok, Err, length-append}
 use Rattle.std.proofs.lemmas.List.{length-take-le}
 use Rattle.std.specs.Result.{IfOk, IfErr}
@@ -33,6 +34,8 @@ use Rattle.yaml_lines.specs.declared.Block.{Block as Lines}
 use Rattle.yaml_lines.specs.declared.Mark.{Mark as Rust}
 use Rattle.yaml_lines.specs.declared.Mark.TheVariants as rust
 use Rattle.yaml_terms.specs.declared.Node.{Node}
+use Rattle.yaml_terms.specs.declared.ScalarText.{ScalarText}
+use Rattle.yaml_subset.specs.declared.entries.OpenEntries.{OpenEntries}
 use Rattle.yaml_terms.specs.declared.ProfileFault.{ProfileFault}
 use Rattle.yaml_subset.specs.declared.open.OpenNodes.{OpenNodes}
 use Rattle.yaml_subset.specs.declared.open.LineError.{LineError}
@@ -193,9 +196,9 @@ repeated_any (dash n) f v = refl
 repeated_any (value n x) f v = refl
 repeated_any (header n s) f v = refl
 repeated_any (raw l) f v = refl
-repeated_any (key n k) (frames.Map j es i) v =
-    list_any-append (λ (c : Child). is_key k c.mark) (map (entry_child j) es) _
-    ∙ sym (list_any-append (λ (c : Child). is_key k c.mark) (map (entry_child j) es) _)
+repeated_any (key n k) (frames.Map j e) v =
+    list_any-append (λ (c : Child). is_key k c.mark) (map (entry_child j) e.0) _
+    ∙ sym (list_any-append (λ (c : Child). is_key k c.mark) (map (entry_child j) e.0) _)
 repeated_any (key n k) (frames.List j xs) v =
     list_any-append (λ (c : Child). is_key k c.mark) (map (child (dash j)) xs.items) _
     ∙ sym (list_any-append (λ (c : Child). is_key k c.mark) (map (child (dash j)) xs.items) _)
@@ -349,6 +352,16 @@ pub begun_value_none : (d n : ℕ) (x : Tree) → d ≡ 0 → is_shallow 0 x ≡
     → begun_node d (value n x) ≡ None
 begun_value_none d n x e h = rw (e, h) refl
 
+-- a map begins with its first key, and has no children yet
+pub begun_map : (docs : List Node) (fs : List Frame) (d n : ℕ) (k : List ℕ) (f : Frame) (o : Open)
+    → is_none (begun_node d (key n k)) ≡ false → head_of f ≡ key n k → done_of f ≡ []
+    → o ≡ stream_of docs fs (within (head_of f) (done_of f) nothing)
+    → BeginsAs docs fs (begun_node d (key n k)) o
+begun_map docs fs zero n k f o some h e is = absurd (false≢true (sym some))
+begun_map docs fs (suc d) n k f o some h e is = sym (ap Some
+    (is ∙ ap (λ (m : Mark). stream_of docs fs (within m (done_of f) nothing)) h
+    ∙ ap (λ (cs : List Child). stream_of docs fs (within (key n k) cs nothing)) e))
+
 pub open_of_push : (fs : List Frame) (f : Frame) (o : Open)
     → open_of fs (within (head_of f) (done_of f) o) ≡ open_of (fs ++ (f ∷ [])) o
 open_of_push [] f o = refl
@@ -404,7 +417,7 @@ module _ (docs : List Node) (fs : List Frame) (begins : Option Open) (whole : Op
 
 raw_place : (l : List ℕ) (fs : List Frame) → next_place (raw l) fs ≡ length fs
 raw_place l [] = refl
-raw_place l (frames.Map n es k ∷ fs) = ap suc (raw_place l fs)
+raw_place l (frames.Map n e ∷ fs) = ap suc (raw_place l fs)
 raw_place l (frames.List n xs ∷ fs) = ap suc (raw_place l fs)
 
 raw_room : (l : List ℕ) (h : Mark) → has_room h (raw l) ≡ false
@@ -417,7 +430,7 @@ raw_room l (raw j) = refl
 
 none_at : (fs : List Frame) → any_at None fs ≡ false
 none_at [] = refl
-none_at (frames.Map n es k ∷ fs) = none_at fs
+none_at (frames.Map n e ∷ fs) = none_at fs
 none_at (frames.List n xs ∷ fs) = none_at fs
 
 pub raw_taken : (docs : List Child) (fs : List Frame) (b : Block) (l : List ℕ)
@@ -501,3 +514,37 @@ pub next_ends : (m : Mark) (fs : List Frame) (at n : ℕ) → length fs ≤ at �
 next_ends m fs at n h j i =
     let z : next_place m (drop at fs) ≡ 0 = ap (next_place m) (drop_all at fs h) in
     omega (arith, z, i)
+
+-- the next key of a map stands at its column
+pub goes_at_column : (n m : ℕ) (e : OpenEntries) (next : ScalarText) (f : Frame) (k : Mark)
+    (v : Option Tree) (o : Option Frame)
+    → f ≡ frames.Map n e → k ≡ key m next → is_next (head_of f) k ≡ true
+    → GoesOn (frames.Map n e) v (key n next) o → GoesOn f v k o
+goes_at_column n m e next f k v o is_map is_key follows goes =
+    let here : is_next (head_of f) k ≡ (n == m) =
+    ap (λ (g : Frame). is_next (head_of g) k) is_map
+    ∙ ap (λ (x : Mark). is_next (key n e.1) x) is_key in
+    let same : n ≡ m = eqb-true n m (sym here ∙ follows) in
+    subst (λ (g : Frame). GoesOn g v k o) (sym is_map)
+    (subst (λ (x : Mark). GoesOn (frames.Map n e) v x o)
+    (ap (λ (i : ℕ). key i next) same ∙ sym is_key) goes)
+
+dash_follows : (n : ℕ) (m : Mark) → is_next (dash n) m ≡ true → m ≡ dash n
+dash_follows n start e = absurd (false≢true e)
+dash_follows n (dash k) e = ap dash (sym (eqb-true n k e))
+dash_follows n (key k t) e = absurd (false≢true e)
+dash_follows n (value k x) e = absurd (false≢true e)
+dash_follows n (header k s) e = absurd (false≢true e)
+dash_follows n (raw l) e = absurd (false≢true e)
+
+-- a list goes on at each next dash
+pub list_goes : (n : ℕ) (old new : Vec Node) (f : Frame) (m : Mark) (v : Option Tree)
+    → f ≡ frames.List n old → is_next (head_of f) m ≡ true
+    → map (child (dash n)) new.items ≡ with_child (map (child (dash n)) old.items) (dash n) v
+    → GoesOn f v m (Some (frames.List n new))
+list_goes n old new f m v is_list follows more =
+    let next : is_next (dash n) m ≡ true =
+    sym (ap (λ (g : Frame). is_next (head_of g) m) is_list) ∙ follows in
+    subst (λ (g : Frame). GoesOn g v m (Some (frames.List n new))) (sym is_list)
+    (subst (λ (x : Mark). GoesOn (frames.List n old) v x (Some (frames.List n new)))
+    (sym (dash_follows n m next)) (refl, refl, more))

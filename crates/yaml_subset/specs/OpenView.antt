@@ -1,9 +1,9 @@
 -- What contracts see of the open nodes that the reader keeps: its frames, the outermost first.
 use Rattle.std.specs.Prelude.{ℕ, suc, Bool, ◌||◌, true, false, ◌≡◌, List, [], ◌∷◌, ◌++◌, Option}
-use Rattle.std.specs.Prelude.{Some, cond, map, option_map}
+use Rattle.std.specs.Prelude.{Some, None, cond, map, option_map}
 use Rattle.yaml_terms.specs.Tree.{Tree}
 use Rattle.yaml_terms.specs.Mark.{Mark, start, dash, key, Child}
-use Rattle.yaml_terms.specs.Profile.{is_next, with_child, collection}
+use Rattle.yaml_terms.specs.Profile.{is_next, is_repeated, with_child, collection}
 use Rattle.yaml_lines.specs.BlockView.{block_view}
 use Rattle.yaml_terms.specs.OpenNodes.{Open, nothing, inline, block, within}
 use Rattle.yaml_terms.specs.Fault.{column, same_column}
@@ -30,12 +30,12 @@ entry_child n p = child (key n p.0) p.1
 
 -- the last mark of an open map, list or stream
 abbrev pub head_of : Frame → Mark
-head_of (frames.Map n entries k) = key n k
+head_of (frames.Map n entries) = key n entries.1
 head_of (frames.List n items) = dash n
 
 -- its finished children
 abbrev pub done_of : Frame → List Child
-done_of (frames.Map n entries k) = map (entry_child n) entries
+done_of (frames.Map n entries) = map (entry_child n) entries.0
 done_of (frames.List n items) = map (child (dash n)) items.items
 
 -- frames, and what stands within the innermost
@@ -60,6 +60,15 @@ stream_of docs fs o = within start (map (child start) docs) (open_of fs o)
 -- the open nodes of the reader
 abbrev pub nodes_open : OpenNodes → Open
 nodes_open o = stream_of o.documents.items o.frames.items (last_view o.last)
+
+-- a map or list at its next mark, with a value behind its last one; or none, where the mark is a
+-- key that the map has already
+abbrev pub GoesOn : Frame → Option Tree → Mark → Option Frame → Type 0
+GoesOn before value m None =
+    is_repeated m (with_child (done_of before) (head_of before) None) ≡ true
+GoesOn before value m (Some after) =
+    (is_repeated m (with_child (done_of before) (head_of before) None) ≡ false)
+    × (head_of after ≡ m) × (done_of after ≡ with_child (done_of before) (head_of before) value)
 
 -- one frame fewer: the innermost is closed, with this value within it
 pub record ClosesOne (before : List Frame) (value : Option Tree) (after : List Frame)

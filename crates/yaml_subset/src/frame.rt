@@ -1,30 +1,31 @@
 //! Open maps and lists.
 
-ghost use Rattle.std.specs.Prelude.{◌≡◌, ℕ, ◌||◌, true, Option, Some, None, IfOk, ◌<◌, map, length};
+ghost use Rattle.std.specs.Prelude.{◌≡◌, ℕ, [], true, Option, Some, None, IfOk, ◌<◌, map, length};
 ghost use Rattle.std.specs.Prelude.{option_map};
 ghost use Rattle.yaml_terms.specs.Tree.{Tree};
-ghost use Rattle.std.specs.Str.{bytes_eq};
 ghost use Rattle.yaml_terms.specs.Mark as marks;
 ghost use Rattle.yaml_terms.specs.Fault.{column, same_column};
 ghost use Rattle.yaml_terms.specs.Profile.{is_next, has_room as has_room_def, with_child};
-ghost use Rattle.yaml_terms.specs.Profile.{is_repeated as is_repeated_def, collection};
+ghost use Rattle.yaml_terms.specs.Profile.{collection};
 ghost use Rattle.yaml_terms.specs.Profile.{is_deeper as is_deeper_def, no_text as no_text_def};
 ghost use Rattle.yaml_terms.specs.Profile.{or_no_text as or_no_text_def};
 ghost use Rattle.yaml_terms.specs.OpenNodes.{node_so_far};
 ghost use Rattle.yaml_terms.specs.NodeView.{node_view};
 ghost use Rattle.yaml_lines.specs.LineView.{mark_view};
 ghost use Rattle.yaml_subset.specs.OpenView.{head_of, done_of, last_view, child, entry_child};
+ghost use Rattle.yaml_subset.specs.OpenView.{GoesOn};
+ghost use Rattle.yaml_subset.specs.declared.frame.Frame.TheVariants as frames;
 
 use crate::entries::OpenEntries;
 use std::alloc::{AllocError, Global};
 use yaml_lines::{Block, Mark};
-use yaml_terms::{Node, Nodes, ScalarText};
+use yaml_terms::{Node, Nodes, Pairs, ScalarText};
 
 /// An open map or list at its column, with its finished children; a map also with the key whose
 /// value is open.
 #[derive(Drop)]
 pub(crate) enum Frame {
-    Map(usize, OpenEntries, ScalarText),
+    Map(usize, OpenEntries),
     List(usize, Nodes),
 }
 
@@ -75,37 +76,13 @@ impl Last {
     }
 }
 
-/// Whether two texts have the same bytes.
-fn same_bytes(one: &[u8], other: &[u8]) -> bool
-    ensures { result ≡ bytes_eq one.now other.now }
-{
-    one == other
-}
-
-/// Whether a map at a column has a key among its entries, or open.
-fn is_known(column: usize, entries: &OpenEntries, key: &[u8], next: &[u8]) -> bool
-    ensures { result ≡ is_repeated_def (marks.key column next.now)
-        (with_child (map (entry_child column) entries.now) (marks.key column key.now) None) }
-{
-    let finished = entries.has_key(next);
-    let open = same_bytes(next, key);
-    either(finished, open)
-}
-
-/// Whether one of two facts holds, both being known.
-fn either(one: bool, other: bool) -> bool
-    ensures { result ≡ (one || other) }
-{
-    one || other
-}
-
 impl Frame {
     /// Whether a mark begins its next entry, item or document.
     pub(crate) fn is_followed_by(&self, mark: &Mark) -> bool
         ensures { result ≡ is_next (head_of self.now) (mark_view mark.now) }
     {
         match self {
-            Frame::Map(column, _, _) => match mark {
+            Frame::Map(column, _) => match mark {
                 Mark::Key(at, _) => *column == *at,
                 _ => false,
             },
@@ -121,7 +98,7 @@ impl Frame {
         ensures { result ≡ is_deeper_def (head_of self.now) at }
     {
         match self {
-            Frame::Map(column, _, _) => *column < at,
+            Frame::Map(column, _) => *column < at,
             Frame::List(column, _) => *column < at,
         }
     }
@@ -131,7 +108,7 @@ impl Frame {
         ensures { result ≡ has_room_def (head_of self.now) (marks.dash at) }
     {
         match self {
-            Frame::Map(column, _, _) => *column <= at,
+            Frame::Map(column, _) => *column <= at,
             Frame::List(column, _) => *column < at,
         }
     }
@@ -156,53 +133,32 @@ impl Frame {
         match at {
             None => false,
             Some(at) => match self {
-                Frame::Map(column, _, _) => *column == at,
+                Frame::Map(column, _) => *column == at,
                 Frame::List(column, _) => *column == at,
             },
         }
     }
 
-    /// Whether a mark is a key that it has already, finished or open.
-    pub(crate) fn is_repeated_by(&self, mark: &Mark) -> bool
-        requires { is_next (head_of self.now) (mark_view mark.now) ≡ true }
-        ensures { result ≡ is_repeated_def (mark_view mark.now)
-            (with_child (done_of self.now) (head_of self.now) None) }
-    {
-        match self {
-            Frame::List(_, _) => false,
-            Frame::Map(column, entries, key) => match mark {
-                Mark::Key(_, next) => {
-                    is_known(*column, entries, key.as_bytes(), next.as_bytes())
-                }
-                _ => false,
-            },
-        }
-    }
-
-    /// The same map or list at its next mark, with a value behind the last one.
+    /// The same map or list at its next mark, with a value behind the last one; nothing where the
+    /// mark is a key that it has already.
     pub(crate) fn next(
         self,
         alloc: Global,
         value: Option<Node>,
         mark: Mark,
-    ) -> Result<Frame, AllocError>
+    ) -> Result<Option<Frame>, AllocError>
         requires { is_next (head_of self) (mark_view mark) ≡ true }
-        ensures head { IfOk result (λ f. head_of f ≡ mark_view mark) }
-        ensures done { IfOk result (λ f. done_of f
-            ≡ with_child (done_of self) (head_of self) (option_map node_view value)) }
+        ensures { IfOk result (λ o. GoesOn self (option_map node_view value) (mark_view mark) o) }
     {
         match self {
-            Frame::Map(column, entries, key) => match mark {
-                Mark::Key(_, next) => {
-                    let entries = more_entries(alloc, column, entries, key, value)?;
-                    Ok(Frame::Map(column, entries, next))
-                }
+            Frame::Map(column, entries) => match mark {
+                Mark::Key(_, next) => next_entry(alloc, column, entries, value, next),
                 _ => unreachable!(),
             },
             Frame::List(column, items) => {
                 drop(mark);
                 let items = more_items(alloc, column, items, value)?;
-                Ok(Frame::List(column, items))
+                Ok(Some(Frame::List(column, items)))
             }
         }
     }
@@ -213,9 +169,9 @@ impl Frame {
             ≡ collection (with_child (done_of self) (head_of self) (option_map node_view value))) }
     {
         match self {
-            Frame::Map(column, entries, key) => {
-                let entries = more_entries(alloc, column, entries, key, value)?;
-                Ok(node_of_entries(column, entries))
+            Frame::Map(column, entries) => {
+                let pairs = all_entries(alloc, column, entries, value)?;
+                Ok(node_of_entries(column, pairs))
             }
             Frame::List(column, items) => {
                 let items = more_items(alloc, column, items, value)?;
@@ -242,23 +198,55 @@ pub(crate) fn more_documents(nodes: Nodes, value: Option<Node>) -> Result<Nodes,
     }
 }
 
-/// The entries with one more, of a map at a column.
-#[tactic(auto, using(std::proofs::lemmas::List::map_push))]
-fn more_entries(
+/// A map at a column that begins with a key.
+pub(crate) fn map_from(alloc: Global, column: usize, key: ScalarText) -> Result<Frame, AllocError>
+    ensures head { IfOk result (λ f. head_of f ≡ marks.key column key) }
+    ensures done { IfOk result (λ f. done_of f ≡ []) }
+{
+    match OpenEntries::new(alloc, key) {
+        Ok(entries) => Ok(Frame::Map(column, entries)),
+        Err(refused) => Err(refused),
+    }
+}
+
+/// The map at a column with a value behind its open key, and the next key; nothing where it has
+/// that key.
+fn next_entry(
     alloc: Global,
     column: usize,
     entries: OpenEntries,
-    key: ScalarText,
     value: Option<Node>,
-) -> Result<OpenEntries, AllocError>
-    ensures more { IfOk result (λ e. map (entry_child column) e
-        ≡ with_child (map (entry_child column) entries) (marks.key column key)
-        (option_map node_view value)) }
-    ensures filled { IfOk result (λ e. 0 < length e) }
+    key: ScalarText,
+) -> Result<Option<Frame>, AllocError>
+    ensures { IfOk result (λ o. GoesOn (frames.Map column entries) (option_map node_view value)
+        (marks.key column key) o) }
 {
     let node = or_no_text(alloc, value);
-    let entries = entries.with(alloc, key, node)?;
-    Ok(entries)
+    match entries.next(alloc, node, key) {
+        Ok(Some(entries)) => Ok(Some(Frame::Map(column, entries))),
+        Ok(None) => Ok(None),
+        Err(refused) => Err(refused),
+    }
+}
+
+/// All entries of a map at a column, with a value behind its open key.
+#[tactic(auto, using(std::proofs::lemmas::List::map_push))]
+fn all_entries(
+    alloc: Global,
+    column: usize,
+    entries: OpenEntries,
+    value: Option<Node>,
+) -> Result<Pairs, AllocError>
+    ensures more { IfOk result (λ pairs. map (entry_child column) pairs.items
+        ≡ with_child (map (entry_child column) entries.0) (marks.key column entries.1)
+        (option_map node_view value)) }
+    ensures filled { IfOk result (λ pairs. 0 < length pairs.items) }
+{
+    let node = or_no_text(alloc, value);
+    match entries.ended(node) {
+        Ok(pairs) => Ok(pairs),
+        Err(refused) => Err(refused),
+    }
 }
 
 /// The items with one more, of a list at a column.
@@ -280,11 +268,11 @@ fn more_items(
 }
 
 /// The map with these entries.
-fn node_of_entries(column: usize, entries: OpenEntries) -> Node
-    requires { 0 < length entries }
-    ensures { node_view result ≡ collection (map (entry_child column) entries) }
+fn node_of_entries(column: usize, pairs: Pairs) -> Node
+    requires { 0 < length pairs.items }
+    ensures { node_view result ≡ collection (map (entry_child column) pairs.items) }
 {
-    Node::Map(entries.ended())
+    Node::Map(pairs)
 }
 
 /// The list of these items.

@@ -19,8 +19,7 @@ ghost use Rattle.yaml_subset.specs.OpenView.{ClosesOne, BeginsAs, child};
 ghost use Rattle.yaml_subset.specs.LineErrorView.{Refuses};
 ghost use Rattle.yaml_subset.specs.OpenView.{nodes_open};
 
-use crate::entries::OpenEntries;
-use crate::frame::{Frame, Last, more_documents};
+use crate::frame::{Frame, Last, map_from, more_documents};
 use std::alloc::{AllocError, AllocFailed, Global};
 use yaml_lines::{Block, Mark};
 use yaml_terms::{MAX_DEPTH, Node, Nodes, ProfileFault, is_scalar};
@@ -250,11 +249,8 @@ fn begin_there(
             with_frame(documents, frames, Frame::List(column, Vec::new(alloc)))
         }
         Mark::Key(column, key) => {
-            with_frame(
-                documents,
-                frames,
-                Frame::Map(column, OpenEntries::new(alloc), key),
-            )
+            let frame = map_from(alloc, column, key)?;
+            with_frame(documents, frames, frame)
         }
         Mark::Value(_, node) => Ok(OpenNodes {
             documents,
@@ -291,16 +287,14 @@ fn next_frames(
     let value = close_above(alloc, frames, last, at + 1)?;
     match frames.pop() {
         None => unreachable!(),
-        Some(frame) => {
-            if frame.is_repeated_by(&mark) {
-                drop(frame);
-                drop(mark);
-                return Err(LineError::Fault(ProfileFault::DuplicateKey));
+        Some(frame) => match frame.next(alloc, value, mark) {
+            Ok(Some(frame)) => {
+                frames.push(frame)?;
+                Ok(())
             }
-            let frame = frame.next(alloc, value, mark)?;
-            frames.push(frame)?;
-            Ok(())
-        }
+            Ok(None) => Err(LineError::Fault(ProfileFault::DuplicateKey)),
+            Err(_) => Err(LineError::NoMemory),
+        },
     }
 }
 
