@@ -1,20 +1,31 @@
 -- What the lines of alerts still know as lines change.
 use Rattle.std.proofs.Common.{◌≡◌, ◌≢◌, ◌∙◌, inl, inr, ℕ, zero, suc, ◌<◌, ◌≤◌, ◌&&◌, nat_le, nat_lt}
 use Rattle.std.proofs.Common.{Bool, true, arith, refl, sym, subst, ap, List, [], ◌∷◌, ◌++◌, take}
-use Rattle.std.proofs.Common.{slice_get, slice_index_or, slice_set, Some, Result, Ok, Err, OnOk}
+use Rattle.std.proofs.Common.{slice_get, slice_index_or, slice_set, None, Some, Result, Ok, Err}
+use Rattle.std.proofs.Common.{OnOk}
 use Rattle.std.proofs.Common.{if◌then◌else◌}
 use Rattle.std.specs.List.{AllByRecursion}
 use Rattle.std.proofs.lemmas.Bool.Decides.{nat_tests}
 use Rattle.window_sums.specs.Slices.{CountedDays}
 use Rattle.alert_line.specs.Learnt.{IsLearnt, start_of}
 use Rattle.alert_line.specs.Line.{Line, SameAlert, condition_on, knowledge}
+use Rattle.catalog_terms.specs.declared.Binding.{Binding}
 use Rattle.office_history.specs.Alerts.{Watch}
 use Rattle.kept_lines.specs.Known.{AllKnow, EachBecomes, IsLineOf, LineKnows, StillKnows}
 use Rattle.kept_lines.specs.Lines.{watches_of}
 use Rattle.kept_lines.specs.declared.kept.WatchLine.{WatchLine}
 
+-- a line that remembers no binding
 abbrev beside : Watch → Line → WatchLine
-beside w line = record { watch = w; line = line }
+beside w line = record { watch = w; line = line; bound = None }
+
+-- a line that has learnt something
+abbrev pub with_line : WatchLine → Line → WatchLine
+with_line k line = record { watch = k.watch; line = line; bound = k.bound }
+
+-- a line that remembers a binding
+abbrev pub with_bound : WatchLine → Binding → WatchLine
+with_bound k b = record { watch = k.watch; line = k.line; bound = Some b }
 
 -- an alert has one line
 pub one_line : (kept : List WatchLine) (w : Watch) (a b : Line) → IsLineOf kept w a →
@@ -63,7 +74,8 @@ of_line (k ∷ kept) w line P all (inl here) = subst P here.0 all.0
 of_line (k ∷ kept) w line P all (inr there) = of_line kept w line P all.1 there.1
 
 module _ (R : WatchLine → WatchLine → Type 0)
-    (same : (k k' : WatchLine) → R k k' → k'.watch ≡ k.watch) where
+    (same : (k k' : WatchLine) → R k k' → k'.watch ≡ k.watch)
+    (free : (k k' : WatchLine) → R k k' → R (beside k.watch k.line) (beside k'.watch k'.line)) where
   -- a line of those that come was one of those that were
   pub line_back : (old new : List WatchLine) (w : Watch) (after : Line) → EachBecomes R old new →
       IsLineOf new w after →
@@ -75,9 +87,9 @@ module _ (R : WatchLine → WatchLine → Type 0)
         k.line,
         inl (was, refl),
         subst (λ (x : WatchLine). R (beside w k.line) x)
-            (λ i. record { watch = here.0 i; line = here.1 i })
-            (subst (λ (x : WatchLine). R x k') (λ i. record { watch = was i; line = k.line })
-            each.0),
+            (λ i. beside (here.0 i) (here.1 i))
+            (subst (λ (x : WatchLine). R x (beside k'.watch k'.line)) (λ i. beside (was i) k.line)
+            (free k k' each.0)),
       )
   line_back (k ∷ old) (k' ∷ new) w after each (inr there) =
       let found = line_back old new w after each.1 there.1 in (
@@ -137,17 +149,33 @@ know_set [] place d k knows = tt
 know_set (x ∷ kept) zero d k knows = (knows, all_know kept)
 know_set (x ∷ kept) (suc place) d k knows = (still x, know_set kept place d k knows)
 
--- the line that was found there has learnt something, and the others stay
+-- the line that was found there becomes one that knows what it knew, and the others stay
+know_put : (kept items : List WatchLine) (place : ℕ) (k k' : WatchLine) → items ≡ kept →
+    k ≡ slice_index_or items place k → StillKnows k k' → AllKnow kept (slice_set items place k')
+know_put kept items place k k' same at knows =
+    subst (λ (ks : List WatchLine). AllKnow ks (slice_set items place k')) same
+    (know_set items place k k' (subst (λ (x : WatchLine). StillKnows x k') at knows))
+
+-- it has learnt something
 pub know_there : (kept items : List WatchLine) (place : ℕ) (k : WatchLine) (after : Line) →
     items ≡ kept → k ≡ slice_index_or items place k → SameAlert k.line after →
     ((minute : ℕ) (holds : Bool) → knowledge k.line minute ≡ Some holds →
     knowledge after minute ≡ Some holds) →
-    AllKnow kept (slice_set items place (record { watch = k.watch; line = after }))
+    AllKnow kept (slice_set items place (with_line k after))
 know_there kept items place k after same at alert each =
-    subst (λ (ks : List WatchLine). AllKnow ks (slice_set items place (beside k.watch after))) same
-    (know_set items place k (beside k.watch after)
-    (subst (λ (x : WatchLine). StillKnows x (beside k.watch after)) at
-    (record { watch = refl; alert = alert; each = each })))
+    know_put kept items place k (with_line k after) same at
+    (record { watch = refl; alert = alert; each = each })
+
+-- or it remembers a binding
+pub know_bound : (kept items : List WatchLine) (place : ℕ) (k : WatchLine) (b : Binding) →
+    items ≡ kept → k ≡ slice_index_or items place k →
+    AllKnow kept (slice_set items place (with_bound k b))
+know_bound kept items place k b same at =
+    know_put kept items place k (with_bound k b) same at (record {
+      watch = refl;
+      alert = record { rule = refl; target = refl; origin = refl };
+      each = λ minute holds e. e;
+    })
 
 -- LEARNING
 
@@ -173,14 +201,14 @@ pub knows_put : (kept items : List WatchLine) (w : Watch) (place from to : ℕ) 
     AllByRecursion (λ (k : WatchLine). k.watch ≢ w) (take place kept) → k.watch ≡ w →
     ((minute : ℕ) → from ≤ minute → minute < to →
     (holds : Bool) × (knowledge after minute ≡ Some holds)) →
-    LineKnows (slice_set items place (record { watch = k.watch; line = after })) w from to
+    LineKnows (slice_set items place (with_line k after)) w from to
 knows_put kept items w place from to k after same at before is learnt = record {
   each = λ line minute of_w first last.
-      let put : IsLineOf (slice_set items place (beside k.watch after)) w after =
-      subst (λ (ks : List WatchLine). IsLineOf (slice_set ks place (beside k.watch after)) w after)
-      (sym same) (line_put kept w place (beside k.watch after) at before is) in
+      let put : IsLineOf (slice_set items place (with_line k after)) w after =
+      subst (λ (ks : List WatchLine). IsLineOf (slice_set ks place (with_line k after)) w after)
+      (sym same) (line_put kept w place (with_line k after) at before is) in
       subst (λ (l : Line). (holds : Bool) × (knowledge l minute ≡ Some holds))
-      (one_line (slice_set items place (beside k.watch after)) w after line put of_w)
+      (one_line (slice_set items place (with_line k after)) w after line put of_w)
       (learnt minute first last);
 }
 
@@ -194,7 +222,9 @@ pub knows_still : (old new : List WatchLine) (w : Watch) (from to : ℕ) → All
     LineKnows old w from to → LineKnows new w from to
 knows_still old new w from to all knows = record {
   each = λ line minute of_w first last.
-      let back = line_back StillKnows (λ k k' s. s.watch) old new w line all of_w in
+      let back = line_back StillKnows (λ k k' s. s.watch)
+      (λ k k' s. record { watch = s.watch; alert = s.alert; each = s.each }) old new w line all
+      of_w in
       let was = knows.each back.0 minute back.1 first last in
       (was.0, back.2.each minute was.0 was.1);
 }

@@ -1,5 +1,4 @@
 mod BindingLemmas
-mod BindingWalkLemmas
 mod CarriedLemmas
 pub mod ForgetLemmas
 mod KeptLemmas

@@ -14,21 +14,24 @@ use Rattle.burn_core.specs.Timeline.{is_active, state_of}
 use Rattle.slo_terms.specs.Sums.{sum_of_slices}
 use Rattle.window_sums.specs.Slices.{CountedDays, width_of}
 use Rattle.object_terms.specs.declared.Object.{Object}
+use Rattle.catalog_terms.specs.declared.Binding.{Binding}
 use Rattle.alert_line.specs.Line.{Agrees, IsMinute, Line, SameAlert, active_on, condition_on}
 use Rattle.alert_line.specs.Line.{den_before}
 use Rattle.office_history.specs.declared.Measure.{Measure}
 use Rattle.office_history.specs.Alerts.{Watch, holds_at, is_watch_active, rule_named, state_at}
-use Rattle.office_history.specs.Alerts.{watch_with}
+use Rattle.office_history.specs.Alerts.{watch_of, watch_with}
 use Rattle.office_history.specs.Counts.{Samples}
 use Rattle.office_history.specs.Objectives.{measure_at}
 use Rattle.kept_sums.specs.Objectives.{IsObjective}
 use Rattle.kept_sums.proofs.KeyLemmas.{never_there}
-use Rattle.kept_sums.proofs.Loops.{all_set, keys_set}
+use Rattle.kept_sums.proofs.Loops.{all_get, all_set, keys_set}
 use Rattle.kept_sums.proofs.ObjectiveLemmas.{objective_at}
 use Rattle.line_forgetting.specs.Right.{IsRight}
 use Rattle.kept_lines.specs.Sums.{AreSums}
 use Rattle.kept_lines.specs.Watches.{IsWatched}
-use Rattle.kept_lines.specs.Lines.{AreRight, KeepsLines, watches_of}
+use Rattle.kept_lines.specs.Lines.{AreBound, AreRight, AreWatched, IsBound, KeepsLines, bounds_of}
+use Rattle.kept_lines.specs.Lines.{watches_of}
+use Rattle.kept_lines.proofs.KnownLemmas.{with_bound, with_line}
 use Rattle.kept_lines.specs.declared.kept.WatchLine.{WatchLine}
 
 -- ONE LINE
@@ -131,19 +134,55 @@ pub watches_set : (w : Watch) (kept : List WatchLine) (place : ℕ) (k : WatchLi
 watches_set w kept place k e is =
     keys_set (λ (k : WatchLine). k.watch) place kept k k (is ∙ sym (watch_at w kept place k e))
 
--- and the lines are kept as well, where it is right
+-- and the lines are kept as well, where it is right, and remembers what watches its alert
 pub keeps_on : (begin : ℕ) (members : List Object) (s : Samples) (kept : List WatchLine)
     (place : ℕ) (w : Watch) (k : WatchLine) → KeepsLines begin members s kept →
     slice_get (watches_of kept) place ≡ Some w → IsWatched members w → k.watch ≡ w →
-    IsRight begin s w k.line → KeepsLines begin members s (slice_set kept place k)
-keeps_on begin members s kept place w k keeps e watched is right = record {
+    IsRight begin s w k.line → IsBound members k →
+    KeepsLines begin members s (slice_set kept place k)
+keeps_on begin members s kept place w k keeps e watched is right bound = record {
   right = all_set (λ (k : WatchLine). IsRight begin s k.watch k.line) place kept k keeps.right
       (subst (λ (v : Watch). IsRight begin s v k.line) (sym is) right);
   only = all_set (λ (k : WatchLine). IsWatched members k.watch) place kept k keeps.only
       (subst (IsWatched members) (sym is) watched);
   all = λ v has. subst (λ (vs : List Watch). Contains vs v)
       (sym (watches_set w kept place k e is)) (keeps.all v has);
+  bound = all_set (IsBound members) place kept k keeps.bound bound;
 }
+
+-- what a line watches that remembers a binding is what the binding watches
+pub bound_there : (members : List Object) (kept : List WatchLine) (place : ℕ) (b : Binding) →
+    AreBound members kept → slice_get (bounds_of kept) place ≡ Some (Some b) →
+    (w : Watch) × (slice_get (watches_of kept) place ≡ Some w) × (watch_of members b ≡ Some w)
+bound_there members [] place b all e = cc e
+bound_there members (k ∷ kept) zero b all e =
+    let same : k.bound ≡ Some b = cc e in (
+      k.watch,
+      refl,
+      subst (λ (o : Option Binding). IfSome o (λ (b : Binding). watch_of members b ≡ Some k.watch))
+          same all.0,
+    )
+bound_there members (k ∷ kept) (suc place) b all e =
+    bound_there members kept place b all.1 e
+
+-- one alert stands at a place
+pub one_there : (kept : List WatchLine) (place : ℕ) (v w : Watch) →
+    slice_get (watches_of kept) place ≡ Some v → slice_get (watches_of kept) place ≡ Some w →
+    v ≡ w
+one_there kept place v w a b = let same : Some v ≡ Some w = sym a ∙ b in cc same
+
+-- the alert at a place is watched
+pub watched_there : (members : List Object) (kept : List WatchLine) (place : ℕ) (w : Watch) →
+    AreWatched members kept → slice_get (watches_of kept) place ≡ Some w → IsWatched members w
+watched_there members [] place w all e = cc e
+watched_there members (k ∷ kept) zero w all e =
+    let same : k.watch ≡ w = cc e in subst (IsWatched members) same all.0
+watched_there members (k ∷ kept) (suc place) w all e = watched_there members kept place w all.1 e
+
+item_there : (kept items : List WatchLine) (place : ℕ) (k : WatchLine) → items ≡ kept →
+    k ≡ slice_index_or items place k → k ≡ slice_index_or kept place k
+item_there kept items place k same at =
+    at ∙ ap (λ (ks : List WatchLine). slice_index_or ks place k) same
 
 -- what is found at the place of an alert is its line
 pub found : (begin : ℕ) (s : Samples) (w : Watch) (kept items : List WatchLine) (place : ℕ)
@@ -151,8 +190,7 @@ pub found : (begin : ℕ) (s : Samples) (w : Watch) (kept items : List WatchLine
     slice_get (watches_of kept) place ≡ Some w → k ≡ slice_index_or items place k →
     IsRight begin s w k.line × (k.watch ≡ w)
 found begin s w kept items place k same right e at =
-    let here : k ≡ slice_index_or kept place k =
-    at ∙ ap (λ (ks : List WatchLine). slice_index_or ks place k) same in (
+    let here = item_there kept items place k same at in (
       subst (λ (x : WatchLine). IsRight begin s w x.line) (sym here)
           (right_at begin s w kept place k right e),
       ap (λ (x : WatchLine). x.watch) here ∙ watch_at w kept place k e,
@@ -167,23 +205,36 @@ is_minute begin minute line is a b =
 pub keeps_there : (begin : ℕ) (members : List Object) (s : Samples) (w : Watch)
     (kept items : List WatchLine) (place : ℕ) (k : WatchLine) (after : Line) → items ≡ kept →
     KeepsLines begin members s kept → slice_get (watches_of kept) place ≡ Some w →
-    IsWatched members w → k.watch ≡ w → IsRight begin s w after →
-    KeepsLines begin members s
-    (slice_set items place (record { watch = k.watch; line = after }))
-keeps_there begin members s w kept items place k after same keeps e watched is right =
+    k ≡ slice_index_or items place k → IsWatched members w → k.watch ≡ w →
+    IsRight begin s w after →
+    KeepsLines begin members s (slice_set items place (with_line k after))
+keeps_there begin members s w kept items place k after same keeps e at watched is right =
     subst (λ (ks : List WatchLine). KeepsLines begin members s
-    (slice_set ks place (record { watch = k.watch; line = after }))) (sym same)
-    (keeps_on begin members s kept place w (record { watch = k.watch; line = after }) keeps e
-    watched is right)
+    (slice_set ks place (with_line k after))) (sym same)
+    (keeps_on begin members s kept place w (with_line k after) keeps e watched is right
+    (subst (IsBound members) (sym (item_there kept items place k same at))
+    (all_get (IsBound members) place kept k (within w kept place e) keeps.bound)))
+
+-- so they are once it remembers a binding that watches its alert
+pub keeps_bound : (begin : ℕ) (members : List Object) (s : Samples) (w : Watch)
+    (kept items : List WatchLine) (place : ℕ) (k : WatchLine) (b : Binding) → items ≡ kept →
+    k ≡ slice_index_or items place k → KeepsLines begin members s kept →
+    slice_get (watches_of kept) place ≡ Some w → watch_of members b ≡ Some w →
+    KeepsLines begin members s (slice_set items place (with_bound k b))
+keeps_bound begin members s w kept items place k b same at keeps e watches =
+    let here = found begin s w kept items place k same keeps.right e at in
+    subst (λ (ks : List WatchLine). KeepsLines begin members s (slice_set ks place (with_bound k b)))
+    (sym same)
+    (keeps_on begin members s kept place w (with_bound k b) keeps e
+    (watched_there members kept place w keeps.only e) here.1 here.0
+    (watches ∙ ap (λ (v : Watch). Some v) (sym here.1)))
 
 pub watches_there : (w : Watch) (kept items : List WatchLine) (place : ℕ) (k : WatchLine)
     (after : Line) → items ≡ kept → slice_get (watches_of kept) place ≡ Some w → k.watch ≡ w →
-    watches_of (slice_set items place (record { watch = k.watch; line = after }))
-    ≡ watches_of kept
+    watches_of (slice_set items place (with_line k after)) ≡ watches_of kept
 watches_there w kept items place k after same e is =
-    ap (λ (ks : List WatchLine).
-    watches_of (slice_set ks place (record { watch = k.watch; line = after }))) same
-    ∙ watches_set w kept place (record { watch = k.watch; line = after }) e is
+    ap (λ (ks : List WatchLine). watches_of (slice_set ks place (with_line k after))) same
+    ∙ watches_set w kept place (with_line k after) e is
 
 pub place_within : (w : Watch) (kept items : List WatchLine) (place : ℕ) → items ≡ kept →
     slice_get (watches_of kept) place ≡ Some w → place < length items

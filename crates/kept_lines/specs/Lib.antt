@@ -1,4 +1,3 @@
-pub mod BindingWalk
 pub mod Carried
 pub mod Changes
 pub mod Known

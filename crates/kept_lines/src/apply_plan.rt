@@ -1,14 +1,15 @@
 //! The lines that a plan wants, kept, and those that it brings, taken.
-ghost use Rattle.std.specs.Prelude.{◌≡◌, ◌≤◌, ℕ, List, length};
+ghost use Rattle.std.specs.Prelude.{◌≡◌, ◌≤◌, ℕ, List, None, length};
 ghost use Rattle.std.specs.Bool.{Decides};
-ghost use Rattle.std.specs.List.{Contains};
+ghost use Rattle.std.specs.List.{AllByRecursion, Contains};
 ghost use Rattle.alert_line.specs.Line.{Line};
 ghost use Rattle.object_terms.specs.declared.Object.{Object};
 ghost use Rattle.office_history.specs.Alerts.{Watch};
 ghost use Rattle.office_history.specs.Counts.{Samples};
 ghost use Rattle.kept_lines.specs.Known.{IsLineOf};
-ghost use Rattle.kept_lines.specs.Lines.{KeepsLines};
+ghost use Rattle.kept_lines.specs.Lines.{KeepsLines, lines_of, watches_of};
 ghost use Rattle.kept_lines.specs.Plans.{IsLinesPlan};
+ghost use Rattle.kept_lines.specs.declared.kept.WatchLine.{WatchLine};
 
 use crate::kept::KeptLines;
 use crate::plan::LinesPlan;
@@ -41,5 +42,17 @@ impl KeptLines {
         let LinesPlan { wanted, mut made } = plan;
         self.lines.append(&mut made).unwrap();
         self.lines.retain(|kept| is_among(&wanted, &kept.watch));
+        self.forget_bindings();
+    }
+
+    /// The lines remember no binding any more: under another catalog it may watch something else.
+    fn forget_bindings(&mut self)
+        ensures bound { AllByRecursion (λ (k : WatchLine). k.bound ≡ None) self.new.kept }
+        ensures watches { watches_of self.new.kept ≡ watches_of self.old.kept }
+        ensures lines { lines_of self.new.kept ≡ lines_of self.old.kept }
+    {
+        for kept in self.lines.iter_mut() {
+            kept.bound = None;
+        }
     }
 }

@@ -3,12 +3,13 @@ ghost use Rattle.std.specs.Prelude.{◌≡◌, ◌≢◌, ◌≤◌, [], IfSome,
 ghost use Rattle.std.specs.Prelude.{true};
 ghost use Rattle.std.specs.Bool.{Decides};
 ghost use Rattle.std.specs.List.{AllByRecursion, Contains};
-ghost use Rattle.kept_lines.specs.Lines.{watches_of};
+ghost use Rattle.kept_lines.specs.Lines.{bounds_of, watches_of};
 ghost use Rattle.kept_lines.specs.declared.kept.WatchLine.{WatchLine};
 
 use crate::same::is_same_watch;
-use crate::watch::Watch;
+use crate::watch::{Watch, same_binding};
 use alert_line::AlertLine;
+use catalog_terms::Binding;
 use std::alloc::{AllocError, Global};
 use std::marker::Model;
 
@@ -17,6 +18,8 @@ use std::marker::Model;
 pub struct WatchLine {
     pub watch: Watch,
     pub line: AlertLine,
+    /// The binding that was last found to watch it: none until one is, under each catalog.
+    pub bound: Option<Binding>,
 }
 
 /// The line of each alert that is watched.
@@ -60,6 +63,26 @@ pub(crate) fn is_at(lines: &[WatchLine], place: usize, watch: &Watch) -> bool
 {
     match lines.get(place) {
         Some(kept) => is_same_watch(&kept.watch, watch),
+        None => false,
+    }
+}
+
+/// Whether a line remembers a binding.
+fn is_bound(kept: &WatchLine, binding: &Binding) -> bool
+    ensures { result ≡ true → kept.now.bound ≡ Some binding.now }
+{
+    match &kept.bound {
+        Some(bound) => same_binding(bound, binding),
+        None => false,
+    }
+}
+
+/// Whether the line at a place remembers a binding.
+pub(crate) fn is_bound_at(lines: &[WatchLine], place: usize, binding: &Binding) -> bool
+    ensures { result ≡ true → slice_get (bounds_of lines.now) place ≡ Some (Some binding.now) }
+{
+    match lines.get(place) {
+        Some(kept) => is_bound(kept, binding),
         None => false,
     }
 }

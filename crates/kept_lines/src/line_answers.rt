@@ -1,6 +1,6 @@
 //! How a watched alert stands, and when it is active, by its line.
-ghost use Rattle.std.specs.Prelude.{◌≡◌, ◌≢◌, ◌+◌, ◌<◌, ◌≤◌, ℕ, Bool, IfOk, OnOk, Some};
-ghost use Rattle.std.specs.Prelude.{slice_get, take, true};
+ghost use Rattle.std.specs.Prelude.{◌≡◌, ◌≢◌, ◌+◌, ◌<◌, ◌≤◌, ℕ, Bool, IfOk, List, OnOk, Some};
+ghost use Rattle.std.specs.Prelude.{length, slice_get, take, true};
 ghost use Rattle.std.specs.List.{AllByRecursion, Contains};
 ghost use Rattle.slo_limits.specs.declared.TheConstants.{RANGE_MINUTES};
 ghost use Rattle.burn_core.specs.Timeline.{AreSpansOf, state_of};
@@ -9,22 +9,25 @@ ghost use Rattle.alert_line.specs.Learnt.{IsLearnt, start_of};
 ghost use Rattle.alert_line.specs.Line.{Agrees, IsMinute, SameAlert, active_on, den_before};
 ghost use Rattle.alert_line.specs.Line.{knowledge};
 ghost use Rattle.alert_line.specs.Summed.{AreSummedAt};
-ghost use Rattle.office_history.specs.Alerts.{is_watch_active, state_at};
+ghost use Rattle.object_terms.specs.declared.Object.{Object};
+ghost use Rattle.office_history.specs.Alerts.{Watch, is_watch_active, state_at, watch_of};
+ghost use Rattle.office_history.specs.Counts.{Samples};
 ghost use Rattle.office_derived.specs.Derived.{IsSound};
 ghost use Rattle.line_forgetting.specs.Right.{IsRight};
 ghost use Rattle.kept_lines.specs.Carried.{IsHint};
 ghost use Rattle.kept_lines.specs.Known.{AllKnow, IsLineOf, LineKnows};
-ghost use Rattle.kept_lines.specs.Lines.{HasLines, watches_of};
+ghost use Rattle.kept_lines.specs.Lines.{HasLines, KeepsLines, bounds_of, watches_of};
 ghost use Rattle.kept_lines.specs.Sums.{AreSums, samples_of};
 ghost use Rattle.kept_lines.specs.Watches.{IsWatched};
 ghost use Rattle.kept_lines.specs.declared.kept.WatchLine.{WatchLine};
 
 use crate::binding_walk::Hint;
-use crate::kept::{KeptLines, is_at, place_of};
+use crate::kept::{KeptLines, is_at, is_bound_at, place_of};
 use crate::sums::{objective_sums, objective_sums_at};
 use crate::watch::Watch;
 use alert_line::{AlertLine, Spans, SummedWindows};
 use burn_core::State;
+use catalog_terms::Binding;
 use office_derived::Derived;
 use std::alloc::AllocError;
 use std::marker::Brand;
@@ -139,15 +142,38 @@ impl KeptLines {
         ensures spare { self.new.spare ≡ self.old.spare }
     {
         let mut hint = Hint::new();
-        self.state_near(derived, watch, minute, &mut hint)
+        let place = self.place(watch);
+        self.state_in(derived, place, minute, &mut hint)
     }
 
-    /// How a watched alert stands, and where those of the next one are looked for. Sums and lines
-    /// stand in the order of their bindings, mostly, so they are looked for where the ones before
-    /// suggest. Windows are summed up only where none of the rule are carried over the same counts.
-    pub(crate) fn state_near(
+    /// Whether the line at a place remembers a binding.
+    pub(crate) fn remembers(&self, place: usize, binding: &Binding) -> bool
+        ensures { result ≡ true
+            → slice_get (bounds_of self.now.kept) place ≡ Some (Some binding.now) }
+    {
+        is_bound_at(&self.lines, place, binding)
+    }
+
+    /// From now on the line at a place remembers a binding.
+    fn remember(&mut self, place: usize, binding: &Binding)
+        requires within { place < length self.old.kept }
+        ensures lines { (begin : ℕ) (members : List Object) (s : Samples) (w : Watch)
+            → KeepsLines begin members s self.old.kept
+            → slice_get (watches_of self.old.kept) place ≡ Some w
+            → watch_of members binding.now ≡ Some w → KeepsLines begin members s self.new.kept }
+        ensures watches { watches_of self.new.kept ≡ watches_of self.old.kept }
+        ensures know { AllKnow self.old.kept self.new.kept }
+        ensures spare { self.new.spare ≡ self.old.spare }
+    {
+        self.lines[place].bound = Some(*binding);
+    }
+
+    /// How the alert of a binding stands that was looked up. Its line, which is looked for where
+    /// the hint says, remembers the binding from now on.
+    pub(crate) fn state_anew(
         &mut self,
         derived: &Derived,
+        binding: &Binding,
         watch: &Watch,
         minute: u32,
         hint: &mut Hint,
@@ -155,6 +181,7 @@ impl KeptLines {
         requires sound { IsSound derived.now }
         requires lines { HasLines derived.now self.old.kept }
         requires watched { IsWatched derived.now.catalog watch.now }
+        requires binding { watch_of derived.now.catalog binding.now ≡ Some watch.now }
         requires begun { derived.now.origin ≤ minute }
         requires in_range { minute < derived.now.origin + RANGE_MINUTES }
         requires hint { IsHint (samples_of derived.now.book) minute hint.old }
@@ -166,10 +193,40 @@ impl KeptLines {
         ensures know { AllKnow self.old.kept self.new.kept }
         ensures spare { self.new.spare ≡ self.old.spare }
     {
-        let measure = watch.measure();
+        let place = self.place_near(watch, hint.line);
+        self.remember(place, binding);
+        self.state_in(derived, place, minute, hint)
+    }
+
+    /// How the alert of the line at a place stands, and where those of the next one are looked for.
+    /// Sums and lines stand in the order of their bindings, mostly, so they are looked for where
+    /// the ones before suggest. Windows are summed up only where none of the rule are carried over
+    /// the same counts.
+    pub(crate) fn state_in(
+        &mut self,
+        derived: &Derived,
+        place: usize,
+        minute: u32,
+        hint: &mut Hint,
+    ) -> State
+        requires sound { IsSound derived.now }
+        requires lines { HasLines derived.now self.old.kept }
+        requires there { (w : Watch) × (slice_get (watches_of self.old.kept) place ≡ Some w)
+            × IsWatched derived.now.catalog w }
+        requires begun { derived.now.origin ≤ minute }
+        requires in_range { minute < derived.now.origin + RANGE_MINUTES }
+        requires hint { IsHint (samples_of derived.now.book) minute hint.old }
+        ensures hint { IsHint (samples_of derived.now.book) minute hint.new }
+        ensures value { (w : Watch) → slice_get (watches_of self.old.kept) place ≡ Some w
+            → result ≡ state_at derived.now.origin (samples_of derived.now.book) w minute }
+        ensures lines { HasLines derived.now self.new.kept }
+        ensures watches { watches_of self.new.kept ≡ watches_of self.old.kept }
+        ensures know { AllKnow self.old.kept self.new.kept }
+        ensures spare { self.new.spare ≡ self.old.spare }
+    {
+        let measure = self.lines[place].watch.measure();
         let sums_place = derived.sums.place_near(measure, hint.sums);
         let sums = objective_sums_at(derived, measure, sums_place);
-        let place = self.place_near(watch, hint.line);
         hint.sums = sums_place;
         hint.line = place.saturating_add(1);
         hint.carried.go_on_to(&derived.book, measure);

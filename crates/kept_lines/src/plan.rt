@@ -70,6 +70,7 @@ fn add_line(
     made.push(WatchLine {
         watch: *watch,
         line,
+        bound: None,
     })?;
     Ok(())
 }

@@ -3,29 +3,28 @@ ghost use Rattle.std.specs.Prelude.{◌≡◌, ◌<◌, ◌≤◌, ◌+◌, IfOk
 ghost use Rattle.std.specs.List.{Contains};
 ghost use Rattle.slo_limits.specs.declared.TheConstants.{RANGE_MINUTES};
 ghost use Rattle.office_history.specs.Alerts.{state_if, states_at, watch_of as watch_of_def};
-ghost use Rattle.office_history.specs.Objectives.{measure_at as measure_at_def};
 ghost use Rattle.office_derived.specs.Derived.{IsSound};
 ghost use Rattle.catalog_terms.specs.Bindings.{bindings as bindings_def};
 ghost use Rattle.kept_lines.specs.Sums.{samples_of};
 ghost use Rattle.kept_lines.specs.Known.{AllKnow};
 ghost use Rattle.kept_lines.specs.Lines.{HasLines, watches_of};
-ghost use Rattle.kept_lines.specs.BindingWalk.{IsSeen};
 ghost use Rattle.kept_lines.specs.Carried.{IsHint};
 ghost use Rattle.kept_lines.specs.States.{with_state};
 
-use crate::binding_walk::{Hint, Seen, seen_near, watch_seen};
+use crate::binding_walk::Hint;
 use crate::kept::KeptLines;
+use crate::watch::watch_of;
 use burn_core::State;
 use catalog_terms::Binding;
 use office_derived::Derived;
 use std::alloc::{AllocError, Global};
 
-/// How the alert of a binding of this objective stands.
+/// How the alert of a binding stands. The binding is looked up in the catalog only where the line
+/// that the hint tells of doesn't remember it.
 fn state_of_binding(
     derived: &Derived,
     lines: &mut KeptLines,
     binding: &Binding,
-    seen: &Seen,
     minute: u32,
     hint: &mut Hint,
 ) -> State
@@ -34,9 +33,6 @@ fn state_of_binding(
     requires among { Contains (bindings_def derived.now.catalog) binding.now }
     requires begun { derived.now.origin ≤ minute }
     requires in_range { minute < derived.now.origin + RANGE_MINUTES }
-    requires seen { IsSeen derived.now.catalog seen.now }
-    requires measure { seen.now.measure
-        ≡ measure_at_def derived.now.catalog binding.now.slo binding.now.objective }
     requires hint { IsHint (samples_of derived.now.book) minute hint.old }
     ensures hint { IsHint (samples_of derived.now.book) minute hint.new }
     ensures value { result ≡ state_if derived.now.origin (samples_of derived.now.book) minute
@@ -46,8 +42,12 @@ fn state_of_binding(
     ensures know { AllKnow lines.old.kept lines.new.kept }
     ensures spare { lines.new.spare ≡ lines.old.spare }
 {
-    match watch_seen(&derived.catalog, binding, seen) {
-        Some(watch) => lines.state_near(derived, &watch, minute, hint),
+    let place = hint.line;
+    if lines.remembers(place, binding) {
+        return lines.state_in(derived, place, minute, hint);
+    }
+    match watch_of(&derived.catalog, binding) {
+        Some(watch) => lines.state_anew(derived, binding, &watch, minute, hint),
         None => State::Quiet,
     }
 }
@@ -74,11 +74,8 @@ fn states_of(
 {
     let mut states = Vec::new(alloc);
     let mut hint = Hint::new();
-    let mut before = None;
     for binding in bindings {
-        let seen = seen_near(&derived.catalog, binding, before);
-        before = Some(seen);
-        let state = state_of_binding(derived, lines, binding, &seen, minute, &mut hint);
+        let state = state_of_binding(derived, lines, binding, minute, &mut hint);
         states.push((*binding, state))?;
     }
     Ok(states)

@@ -1,12 +1,11 @@
 //! An alert that is watched, and how it stands.
-ghost use Rattle.std.specs.Prelude.{◌≡◌, IfSome, Some};
+ghost use Rattle.std.specs.Prelude.{◌≡◌, IfSome};
 ghost use Rattle.std.specs.List.{list_any};
 ghost use Rattle.std.specs.Str.{bytes_eq};
 ghost use Rattle.burn_core.specs.Alert.{IsRule};
 ghost use Rattle.kept_sums.specs.Objectives.{IsObjective};
 ghost use Rattle.catalog_measures.specs.Measures.{IsMeasure};
 ghost use Rattle.office_history.specs.Alerts.{same_binding as same_binding_def};
-ghost use Rattle.office_history.specs.Alerts.{rule_named as rule_named_def, watch_with};
 ghost use Rattle.office_history.specs.Alerts.{watch_of as watch_of_def, watched as watched_def};
 ghost use Rattle.catalog_terms.specs.References.{names_in};
 ghost use Rattle.kept_lines.specs.Watches.{IsWatched, has_both as has_both_def};
@@ -66,15 +65,6 @@ pub fn watch_of(catalog: &Catalog, binding: &Binding) -> Option<Watch>
 {
     let measure = measure_at(catalog, binding.slo, binding.objective)?;
     let rule = rule_named(catalog, binding.policy)?;
-    Some(Watch { measure, rule })
-}
-
-/// An objective with the rule of a policy: none where the policy has no condition.
-pub(crate) fn with_rule(catalog: &Catalog, measure: Measure, policy: Label) -> Option<Watch>
-    requires { IsMeasure measure }
-    ensures { result ≡ watch_with (Some measure) (rule_named_def catalog.now policy) }
-{
-    let rule = rule_named(catalog, policy)?;
     Some(Watch { measure, rule })
 }
 

@@ -70,8 +70,9 @@ pub forgets_apart : (begin : ℕ) (s : Samples) (o : Office) (e : Entry)
     ForgetsOnlyNear o e old new
 forgets_apart begin s o e touched old new right all touches = record {
   each = λ w before after was is minute holds known apart.
-      let line = (line_again (ForgetsNear touched) (λ k k' f. f.watch) old new w before after all
-      was is).line in
+      let line = (line_again (ForgetsNear touched) (λ k k' f. f.watch)
+      (λ k k' f. record { watch = f.watch; line = f.line }) old new w before after all was is).line
+      in
       let rule = line_rule begin s old w before right was in
       line.only.kept minute holds known
       (λ slice is_touched. subst (λ (r : AlertRule).

@@ -356,6 +356,7 @@ none_watched d lines none no_lines =
       right = tt;
       only = tt;
       all = λ w is. cc is.watches;
+      bound = tt;
     }))
 
 pub kept_new : (d : Derived) (lines : LinesKept) (history : List Entry) (spare places : ℕ) →

@@ -16,7 +16,6 @@ loop-binding-init c = record {
   lines = c.requires.lines;
   watches = refl;
   know = all_know c.args.lines.now.kept;
-  before = tt;
   hint = c.new-hint.ensures (samples_of c.args.derived.now.book) c.args.minute;
   spare = refl;
 }
@@ -41,7 +40,6 @@ loop-binding-preserved c = record {
       know_on c.args.lines.now.kept c.loop-binding.lines.kept
       c.state_of_binding-state.new.lines.kept c.loop-binding.invariant.know
       c.state_of_binding-state.ensures.know;
-  before = c.seen_near-seen.ensures.seen;
   hint = c.state_of_binding-state.ensures.hint;
   spare = c.state_of_binding-state.ensures.spare ∙ c.loop-binding.invariant.spare;
 }

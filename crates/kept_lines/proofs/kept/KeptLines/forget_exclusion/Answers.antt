@@ -10,7 +10,7 @@ use Rattle.kept_sums.proofs.Loops.{written_back}
 use Rattle.office_derived.specs.Derived.{IsPlaced, RowIsRead}
 use Rattle.office_derived.proofs.FormLemmas.{all_fit}
 use Rattle.kept_lines.specs.Changes.{IsChangedBy, samples_on}
-use Rattle.kept_lines.specs.Lines.{AreRight, AreWatched, LinesKept, watches_of}
+use Rattle.kept_lines.specs.Lines.{AreRight, AreWatched, LinesKept, bounds_of, watches_of}
 use Rattle.kept_lines.specs.Watches.{IsWatched}
 use Rattle.kept_lines.specs.declared.kept.WatchLine.{WatchLine}
 use Rattle.kept_lines.proofs.ForgetLemmas.{all_early, forget_back, forget_end, forget_step}
@@ -87,6 +87,7 @@ loop-kept-init c =
       watched = subst (AreWatched d.catalog) same c.requires.lines.only;
       forget = refl;
       watches = refl;
+      bounds = refl;
     }
 
 pub loop-kept-preserved : goal.loop-kept-preserved
@@ -101,6 +102,7 @@ loop-kept-preserved c =
     let next : WatchLine = record {
       watch = (slice_index_or items at c.kept-item.result).watch;
       line = c.forget_changed.new.line;
+      bound = (slice_index_or items at c.kept-item.result).bound;
     } in
     record {
       right = half_step (IsRightOver d.origin before) (IsRightOver d.origin after) at items next
@@ -117,6 +119,8 @@ loop-kept-preserved c =
           c.loop-kept.invariant.forget c.forget_changed.ensures.forgets;
       watches = keys_set (λ (k : WatchLine). k.watch) at items next c.kept-item.result refl
           ∙ c.loop-kept.invariant.watches;
+      bounds = keys_set (λ (k : WatchLine). k.bound) at items next c.kept-item.result refl
+          ∙ c.loop-kept.invariant.bounds;
     }
 
 pub returns-clause-lines : goal.returns-clause-lines
@@ -132,6 +136,7 @@ returns-clause-lines c =
     let same = ap (λ (k : LinesKept). k.kept) (sym c.self.view_is) ∙ sym value in
     keeps_over d.origin d.catalog before after c.args.self.now.kept _
     (ap watches_of back ∙ c.loop-kept.invariant.watches ∙ ap watches_of (sym same))
+    (ap bounds_of back ∙ c.loop-kept.invariant.bounds ∙ ap bounds_of (sym same))
     (subst (AreRight d.origin after) (sym back)
     (half_end (IsRightOver d.origin before) (IsRightOver d.origin after)
     c.loop-kept.kept-index items

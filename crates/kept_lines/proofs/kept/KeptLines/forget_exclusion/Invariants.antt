@@ -3,7 +3,7 @@ use Rattle.std.specs.List.{AllByRecursion}
 use Rattle.line_forgetting.specs.Right.{IsRight}
 use Rattle.kept_sums.proofs.Loops.{HalfDone}
 use Rattle.kept_lines.specs.Changes.{IsChangedBy, samples_on}
-use Rattle.kept_lines.specs.Lines.{watches_of}
+use Rattle.kept_lines.specs.Lines.{bounds_of, watches_of}
 use Rattle.kept_lines.specs.Watches.{IsWatched}
 use Rattle.kept_lines.specs.declared.kept.WatchLine.{WatchLine}
 use Rattle.kept_lines.proofs.ForgetLemmas.{HalfForget}
@@ -21,4 +21,5 @@ invariant-loop-kept l = record {
   forget : HalfForget (IsChangedBy l.derived.book l.value) l.kept-index l.initial.kept-items
       l.kept-items;
   watches : watches_of l.kept-items ≡ watches_of l.initial.kept-items;
+  bounds : bounds_of l.kept-items ≡ bounds_of l.initial.kept-items;
 }

@@ -3,7 +3,7 @@ use Rattle.line_forgetting.specs.Right.{IsRight}
 use Rattle.office_history.specs.Counts.{Samples}
 use Rattle.kept_sums.proofs.Loops.{half_end, half_get, half_step, keys_set, written_back}
 use Rattle.kept_lines.specs.Changes.{IsMovedBy, samples_with}
-use Rattle.kept_lines.specs.Lines.{AreRight, LinesKept, watches_of}
+use Rattle.kept_lines.specs.Lines.{AreRight, LinesKept, bounds_of, watches_of}
 use Rattle.kept_lines.specs.Sums.{samples_of}
 use Rattle.kept_lines.specs.declared.kept.WatchLine.{WatchLine}
 use Rattle.kept_lines.proofs.ForgetLemmas.{all_early, forget_back, forget_end, forget_step}
@@ -37,6 +37,7 @@ loop-kept-init c =
           c.requires.lines.right;
       forget = refl;
       watches = refl;
+      bounds = refl;
       told = tt;
     }
 
@@ -52,6 +53,7 @@ loop-kept-preserved c =
     let next : WatchLine = record {
       watch = (slice_index_or items at c.kept-item.result).watch;
       line = c.forget_moved-told.new.line;
+      bound = (slice_index_or items at c.kept-item.result).bound;
     } in
     record {
       right = half_step (IsRightOver begin before) (IsRightOver begin after) at items next less
@@ -64,6 +66,8 @@ loop-kept-preserved c =
           less c.loop-kept.invariant.forget c.forget_moved-told.ensures.forgets;
       watches = keys_set (λ (k : WatchLine). k.watch) at items next c.kept-item.result refl
           ∙ c.loop-kept.invariant.watches;
+      bounds = keys_set (λ (k : WatchLine). k.bound) at items next c.kept-item.result refl
+          ∙ c.loop-kept.invariant.bounds;
       told = c.forget_moved-told.ensures.told;
     }
 
@@ -80,6 +84,7 @@ returns-clause-lines c =
     let same = ap (λ (k : LinesKept). k.kept) (sym c.self.view_is) ∙ sym value in
     keeps_over begin c.args.derived.now.catalog before after c.args.self.now.kept _
     (ap watches_of back ∙ c.loop-kept.invariant.watches ∙ ap watches_of (sym same))
+    (ap bounds_of back ∙ c.loop-kept.invariant.bounds ∙ ap bounds_of (sym same))
     (subst (AreRight begin after) (sym back)
     (half_end (IsRightOver begin before) (IsRightOver begin after) c.loop-kept.kept-index items
     (omega (arith, c.loop-kept-test.false, c.loop-kept.auto.kept-items))

@@ -3,7 +3,7 @@ use Rattle.line_forgetting.specs.Moves.{IsToldOf}
 use Rattle.line_forgetting.specs.Right.{IsRight}
 use Rattle.kept_sums.proofs.Loops.{HalfDone}
 use Rattle.kept_lines.specs.Changes.{IsMovedBy, samples_with}
-use Rattle.kept_lines.specs.Lines.{watches_of}
+use Rattle.kept_lines.specs.Lines.{bounds_of, watches_of}
 use Rattle.kept_lines.specs.Sums.{samples_of}
 use Rattle.kept_lines.specs.declared.kept.WatchLine.{WatchLine}
 use Rattle.kept_lines.proofs.ForgetLemmas.{HalfForget}
@@ -20,5 +20,6 @@ invariant-loop-kept l = record {
   forget : HalfForget (IsMovedBy l.rows l.verdicts) l.kept-index l.initial.kept-items
       l.kept-items;
   watches : watches_of l.kept-items ≡ watches_of l.initial.kept-items;
+  bounds : bounds_of l.kept-items ≡ bounds_of l.initial.kept-items;
   told : IfSome l.told (IsToldOf l.rows l.verdicts);
 }

@@ -82,7 +82,8 @@ returns-clause-lines c =
     let after = c.spans_of_line.new.line in
     keeps_there d.origin d.catalog s w c.args.self.now.kept c.self.inside.lines.items
     c.place-place.result k after (ap (λ (k : LinesKept). k.kept) c.self.view_is)
-    c.requires.lines c.place-place.ensures.there c.requires.watched (there at).1
+    c.requires.lines c.place-place.ensures.there c.index_mut.ensures.value c.requires.watched
+    (there at).1
     (right_again d.origin s w k.line after c.objective_sums-sums.result.now (there at).0 (are at)
     c.spans_of_line.ensures.alert c.spans_of_line.ensures.agrees)
 

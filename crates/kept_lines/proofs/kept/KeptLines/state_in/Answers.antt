@@ -2,6 +2,7 @@ use Rattle.std.proofs.Common.{◌≡◌, ◌∙◌, ◌<◌, IfSome, ap, arith, 
 use Rattle.window_sums.specs.Slices.{width_of}
 use Rattle.alert_line.specs.Summed.{AreSummedAt}
 use Rattle.line_forgetting.specs.Right.{IsRight}
+use Rattle.office_history.specs.Alerts.{Watch, state_at}
 use Rattle.office_history.specs.Counts.{leaf_at}
 use Rattle.office_history.specs.declared.Measure.{Measure}
 use Rattle.kept_sums.specs.Objectives.{IsObjective}
@@ -11,43 +12,68 @@ use Rattle.kept_lines.specs.Sums.{AreSums, samples_of}
 use Rattle.kept_lines.proofs.CarriedLemmas.{of-sums, over-sums}
 use Rattle.kept_lines.proofs.KnownLemmas.{know_there}
 use Rattle.kept_lines.proofs.LineLemmas.{agrees_there, found, is_minute, keeps_there}
-use Rattle.kept_lines.proofs.LineLemmas.{objective_watched, place_within, right_again}
+use Rattle.kept_lines.proofs.LineLemmas.{objective_watched, one_there, place_within, right_again}
 use Rattle.kept_lines.proofs.LineLemmas.{seen_state, watches_there}
-use Rattle.kept_lines.proofs.kept.KeptLines.state_near.Goals as goal
-use Rattle.kept_lines.proofs.kept.KeptLines.state_near.Goals.{After-go_on_to, After-index_mut}
+use Rattle.kept_lines.proofs.kept.KeptLines.state_in.Goals as goal
+use Rattle.kept_lines.proofs.kept.KeptLines.state_in.Goals.{After-go_on_to, After-index}
+use Rattle.kept_lines.proofs.kept.KeptLines.state_in.Goals.{After-index_mut, After-measure-measure}
+
+pub index-requires : goal.index-requires
+index-requires c =
+    let lines = c.self.inside.lines in
+    let less : c.args.place < length lines.items =
+    place_within c.requires.there.0 c.args.self.now.kept lines.items c.args.place
+    (ap (λ (k : LinesKept). k.kept) c.self.view_is) c.requires.there.1.0 in
+    omega (arith, less, lines.ok.0)
+
+-- the alert that is read is the one that stands there
+read : (c : After-index) → c.index.result.now.watch ≡ c.requires.there.0
+read c =
+    let d = c.args.derived.now in
+    (found d.origin (samples_of d.book) c.requires.there.0 c.args.self.now.kept
+    c.self.inside.lines.items c.args.place c.index.result.now
+    (ap (λ (k : LinesKept). k.kept) c.self.view_is) c.requires.lines.right
+    c.requires.there.1.0 c.index.ensures).1
+
+-- so is its objective
+measured : (c : After-measure-measure) →
+    c.measure-measure.result.now ≡ c.requires.there.0.measure
+measured c =
+    c.measure-measure.ensures.value ∙ ap (λ (w : Watch). w.measure) (read c.After-index)
 
 pub objective_sums_at-sums-requires-clause-objective :
     goal.objective_sums_at-sums-requires-clause-objective
 objective_sums_at-sums-requires-clause-objective c =
+    let at = goal.at.objective_sums_at-sums-requires-clause-objective c in
     let members = c.args.derived.now.catalog in
-    subst (IsObjective members) (sym c.measure-measure.ensures.value)
-    (objective_watched members c.args.watch.now c.requires.watched)
+    subst (IsObjective members) (sym (measured at.After-measure-measure))
+    (objective_watched members c.requires.there.0 c.requires.there.1.1)
 
 pub index_mut-requires : goal.index_mut-requires
 index_mut-requires c =
     let lines = c.self.inside.lines in
-    let less : c.place_near-place.result < length lines.items =
-    place_within c.args.watch.now c.args.self.now.kept lines.items c.place_near-place.result
-    (ap (λ (k : LinesKept). k.kept) c.self.view_is) c.place_near-place.ensures in
+    let less : c.args.place < length lines.items =
+    place_within c.requires.there.0 c.args.self.now.kept lines.items c.args.place
+    (ap (λ (k : LinesKept). k.kept) c.self.view_is) c.requires.there.1.0 in
     omega (arith, less, lines.ok.0)
 
 -- the line at the place is right, and it is the alert's
 there : (c : After-index_mut) → IsRight c.args.derived.now.origin
-    (samples_of c.args.derived.now.book) c.args.watch.now c.index_mut.result.now.line
-    × (c.index_mut.result.now.watch ≡ c.args.watch.now)
+    (samples_of c.args.derived.now.book) c.requires.there.0 c.index_mut.result.now.line
+    × (c.index_mut.result.now.watch ≡ c.requires.there.0)
 there c =
     let d = c.args.derived.now in
-    found d.origin (samples_of d.book) c.args.watch.now c.args.self.now.kept
-    c.self.inside.lines.items c.place_near-place.result c.index_mut.result.now
+    found d.origin (samples_of d.book) c.requires.there.0 c.args.self.now.kept
+    c.self.inside.lines.items c.args.place c.index_mut.result.now
     (ap (λ (k : LinesKept). k.kept) c.self.view_is) c.requires.lines.right
-    c.place_near-place.ensures c.index_mut.ensures.value
+    c.requires.there.1.0 c.index_mut.ensures.value
 
 -- the sums are those of its objective
 are : (c : After-index_mut) → AreSums (samples_of c.args.derived.now.book)
-    c.args.watch.now.measure c.objective_sums_at-sums.result.now
+    c.requires.there.0.measure c.objective_sums_at-sums.result.now
 are c =
     subst (λ (m : Measure). AreSums (samples_of c.args.derived.now.book) m
-    c.objective_sums_at-sums.result.now) c.measure-measure.ensures.value
+    c.objective_sums_at-sums.result.now) (measured c.After-measure-measure)
     c.objective_sums_at-sums.ensures.sums
 
 pub state_of_line-requires-clause-minute : goal.state_of_line-requires-clause-minute
@@ -60,68 +86,72 @@ pub state_of_line-requires-clause-agrees : goal.state_of_line-requires-clause-ag
 state_of_line-requires-clause-agrees c =
     let at = (goal.at.state_of_line-requires-clause-agrees c).After-index_mut in
     let d = c.args.derived.now in
-    agrees_there d.origin (samples_of d.book) c.args.watch.now c.index_mut.result.now.line
+    agrees_there d.origin (samples_of d.book) c.requires.there.0 c.index_mut.result.now.line
     c.objective_sums_at-sums.result.now (there at).0 (are at)
 
 -- the windows that are carried are over what it counts
-carried : (c : After-go_on_to) → AreSummedAt (width_of c.args.watch.now.measure.method)
-    (leaf_at (samples_of c.args.derived.now.book) c.args.watch.now.measure) c.args.minute
+carried : (c : After-go_on_to) → AreSummedAt (width_of c.requires.there.0.measure.method)
+    (leaf_at (samples_of c.args.derived.now.book) c.requires.there.0.measure) c.args.minute
     c.go_on_to.new.self.windows
 carried c =
     subst (λ (m : Measure). AreSummedAt (width_of m.method)
     (leaf_at (samples_of c.args.derived.now.book) m) c.args.minute c.go_on_to.new.self.windows)
-    c.measure-measure.ensures.value (c.go_on_to.ensures.windows c.args.minute c.requires.hint)
+    (measured c.After-measure-measure) (c.go_on_to.ensures.windows c.args.minute c.requires.hint)
 
 pub state_of_line-requires-clause-windows : goal.state_of_line-requires-clause-windows
 state_of_line-requires-clause-windows c =
     let at = goal.at.state_of_line-requires-clause-windows c in
-    over-sums (samples_of c.args.derived.now.book) c.args.watch.now.measure
+    over-sums (samples_of c.args.derived.now.book) c.requires.there.0.measure
     c.objective_sums_at-sums.result.now c.args.minute c.go_on_to.new.self.windows
     (are at.After-index_mut) (carried at.After-go_on_to)
 
 pub returns-clause-hint : goal.returns-clause-hint
 returns-clause-hint c =
-    let at = (goal.at.returns-clause-hint c).After-index_mut in
+    let at = goal.at.returns-clause-hint c in
     let s = samples_of c.args.derived.now.book in
     let same = subst (λ (m : Measure). IfSome c.go_on_to.new.self.measure
-    (λ (own : Measure). HaveSameLeaves s own m)) c.measure-measure.ensures.value
+    (λ (own : Measure). HaveSameLeaves s own m)) (measured at.After-measure-measure)
     c.go_on_to.ensures.same in
-    of-sums s c.args.watch.now.measure c.objective_sums_at-sums.result.now c.args.minute
-    c.go_on_to.new.self.measure c.state_of_line.new.windows (are at) same
+    of-sums s c.requires.there.0.measure c.objective_sums_at-sums.result.now c.args.minute
+    c.go_on_to.new.self.measure c.state_of_line.new.windows (are at.After-index_mut) same
     c.state_of_line.ensures.windows
 
 pub returns-clause-value : goal.returns-clause-value
-returns-clause-value c =
+returns-clause-value c = λ w e.
     let at = (goal.at.returns-clause-value c).After-index_mut in
     let d = c.args.derived.now in
+    let s = samples_of d.book in
     c.state_of_line.ensures.value
-    ∙ seen_state d.origin (samples_of d.book) c.args.watch.now c.index_mut.result.now.line
+    ∙ seen_state d.origin s c.requires.there.0 c.index_mut.result.now.line
     c.objective_sums_at-sums.result.now c.args.minute (there at).0 (are at)
+    ∙ ap (λ (v : Watch). state_at d.origin s v c.args.minute)
+    (one_there c.args.self.now.kept c.args.place c.requires.there.0 w c.requires.there.1.0 e)
 
 pub returns-clause-lines : goal.returns-clause-lines
 returns-clause-lines c =
     let at = (goal.at.returns-clause-lines c).After-index_mut in
     let d = c.args.derived.now in
     let s = samples_of d.book in
-    let w = c.args.watch.now in
+    let w = c.requires.there.0 in
     let k = c.index_mut.result.now in
     let after = c.state_of_line.new.line in
     keeps_there d.origin d.catalog s w c.args.self.now.kept c.self.inside.lines.items
-    c.place_near-place.result k after (ap (λ (k : LinesKept). k.kept) c.self.view_is)
-    c.requires.lines c.place_near-place.ensures c.requires.watched (there at).1
+    c.args.place k after (ap (λ (k : LinesKept). k.kept) c.self.view_is)
+    c.requires.lines c.requires.there.1.0 c.index_mut.ensures.value c.requires.there.1.1
+    (there at).1
     (right_again d.origin s w k.line after c.objective_sums_at-sums.result.now (there at).0
     (are at) c.state_of_line.ensures.alert c.state_of_line.ensures.agrees)
 
 pub returns-clause-watches : goal.returns-clause-watches
 returns-clause-watches c =
-    watches_there c.args.watch.now c.args.self.now.kept c.self.inside.lines.items
-    c.place_near-place.result c.index_mut.result.now c.state_of_line.new.line
-    (ap (λ (k : LinesKept). k.kept) c.self.view_is) c.place_near-place.ensures
+    watches_there c.requires.there.0 c.args.self.now.kept c.self.inside.lines.items
+    c.args.place c.index_mut.result.now c.state_of_line.new.line
+    (ap (λ (k : LinesKept). k.kept) c.self.view_is) c.requires.there.1.0
     (there (goal.at.returns-clause-watches c).After-index_mut).1
 
 pub returns-clause-know : goal.returns-clause-know
 returns-clause-know c =
-    know_there c.args.self.now.kept c.self.inside.lines.items c.place_near-place.result
+    know_there c.args.self.now.kept c.self.inside.lines.items c.args.place
     c.index_mut.result.now c.state_of_line.new.line
     (ap (λ (k : LinesKept). k.kept) c.self.view_is)
     c.index_mut.ensures.value c.state_of_line.ensures.alert c.state_of_line.ensures.kept
