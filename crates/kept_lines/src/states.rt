@@ -72,7 +72,7 @@ fn states_of(
     ensures know { AllKnow lines.old.kept lines.new.kept }
     ensures spare { lines.new.spare ≡ lines.old.spare }
 {
-    let mut states = Vec::new(alloc);
+    let mut states = Vec::with_capacity(alloc, bindings.len())?;
     let mut hint = Hint::new();
     for binding in bindings {
         let state = state_of_binding(derived, lines, binding, minute, &mut hint);

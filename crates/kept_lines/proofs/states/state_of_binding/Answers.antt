@@ -12,8 +12,8 @@ state_in-requires-clause-there c =
     let found = bound_there members kept c.args.hint.now.line c.args.binding.now
     c.requires.lines.bound (c.remembers.ensures c.if-remembers.true) in (
       found.0,
-      found.1.0,
-      watched_there members kept c.args.hint.now.line found.0 c.requires.lines.only found.1.0,
+      found.1,
+      watched_there members kept c.args.hint.now.line found.0 c.requires.lines.only found.1,
     )
 
 pub returns-then-remembers-clause-value : goal.returns-then-remembers-clause-value
@@ -21,9 +21,9 @@ returns-then-remembers-clause-value c =
     let d = c.args.derived.now in
     let found = bound_there d.catalog c.args.lines.now.kept c.args.hint.now.line
     c.args.binding.now c.requires.lines.bound (c.remembers.ensures c.if-remembers.true) in
-    c.state_in.ensures.value found.0 found.1.0
+    c.state_in.ensures.value found.0 found.1
     ∙ ap (λ (w : Option Watch). state_if d.origin (samples_of d.book) c.args.minute w)
-    (sym found.1.1)
+    (sym found.2)
 
 pub state_anew-requires-clause-watched : goal.state_anew-requires-clause-watched
 state_anew-requires-clause-watched c = record {

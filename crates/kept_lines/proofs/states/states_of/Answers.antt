@@ -12,13 +12,16 @@ loop-binding-init c = record {
   states =
       ap (λ (states : List (Binding × State)). states
       ++ map (with_state c.args.derived.now c.args.minute) c.args.bindings.now)
-      c.new-states.ensures.items;
+      c.in_ok-states.ensures.items;
   lines = c.requires.lines;
   watches = refl;
   know = all_know c.args.lines.now.kept;
   hint = c.new-hint.ensures (samples_of c.args.derived.now.book) c.args.minute;
   spare = refl;
 }
+
+pub returns-in_err-states-clause-know : goal.returns-in_err-states-clause-know
+returns-in_err-states-clause-know c = all_know c.args.lines.now.kept
 
 pub returns-in_err-push-clause-know : goal.returns-in_err-push-clause-know
 returns-in_err-push-clause-know c =

@@ -23,7 +23,7 @@ index-requires c =
     let lines = c.self.inside.lines in
     let less : c.args.place < length lines.items =
     place_within c.requires.there.0 c.args.self.now.kept lines.items c.args.place
-    (ap (λ (k : LinesKept). k.kept) c.self.view_is) c.requires.there.1.0 in
+    (ap (λ (k : LinesKept). k.kept) c.self.view_is) c.requires.there.1 in
     omega (arith, less, lines.ok.0)
 
 -- the alert that is read is the one that stands there
@@ -33,7 +33,7 @@ read c =
     (found d.origin (samples_of d.book) c.requires.there.0 c.args.self.now.kept
     c.self.inside.lines.items c.args.place c.index.result.now
     (ap (λ (k : LinesKept). k.kept) c.self.view_is) c.requires.lines.right
-    c.requires.there.1.0 c.index.ensures).1
+    c.requires.there.1 c.index.ensures).1
 
 -- so is its objective
 measured : (c : After-measure-measure) →
@@ -47,14 +47,14 @@ objective_sums_at-sums-requires-clause-objective c =
     let at = goal.at.objective_sums_at-sums-requires-clause-objective c in
     let members = c.args.derived.now.catalog in
     subst (IsObjective members) (sym (measured at.After-measure-measure))
-    (objective_watched members c.requires.there.0 c.requires.there.1.1)
+    (objective_watched members c.requires.there.0 c.requires.there.2)
 
 pub index_mut-requires : goal.index_mut-requires
 index_mut-requires c =
     let lines = c.self.inside.lines in
     let less : c.args.place < length lines.items =
     place_within c.requires.there.0 c.args.self.now.kept lines.items c.args.place
-    (ap (λ (k : LinesKept). k.kept) c.self.view_is) c.requires.there.1.0 in
+    (ap (λ (k : LinesKept). k.kept) c.self.view_is) c.requires.there.1 in
     omega (arith, less, lines.ok.0)
 
 -- the line at the place is right, and it is the alert's
@@ -66,7 +66,7 @@ there c =
     found d.origin (samples_of d.book) c.requires.there.0 c.args.self.now.kept
     c.self.inside.lines.items c.args.place c.index_mut.result.now
     (ap (λ (k : LinesKept). k.kept) c.self.view_is) c.requires.lines.right
-    c.requires.there.1.0 c.index_mut.ensures.value
+    c.requires.there.1 c.index_mut.ensures.value
 
 -- the sums are those of its objective
 are : (c : After-index_mut) → AreSums (samples_of c.args.derived.now.book)
@@ -125,7 +125,7 @@ returns-clause-value c = λ w e.
     ∙ seen_state d.origin s c.requires.there.0 c.index_mut.result.now.line
     c.objective_sums_at-sums.result.now c.args.minute (there at).0 (are at)
     ∙ ap (λ (v : Watch). state_at d.origin s v c.args.minute)
-    (one_there c.args.self.now.kept c.args.place c.requires.there.0 w c.requires.there.1.0 e)
+    (one_there c.args.self.now.kept c.args.place c.requires.there.0 w c.requires.there.1 e)
 
 pub returns-clause-lines : goal.returns-clause-lines
 returns-clause-lines c =
@@ -137,7 +137,7 @@ returns-clause-lines c =
     let after = c.state_of_line.new.line in
     keeps_there d.origin d.catalog s w c.args.self.now.kept c.self.inside.lines.items
     c.args.place k after (ap (λ (k : LinesKept). k.kept) c.self.view_is)
-    c.requires.lines c.requires.there.1.0 c.index_mut.ensures.value c.requires.there.1.1
+    c.requires.lines c.requires.there.1 c.index_mut.ensures.value c.requires.there.2
     (there at).1
     (right_again d.origin s w k.line after c.objective_sums_at-sums.result.now (there at).0
     (are at) c.state_of_line.ensures.alert c.state_of_line.ensures.agrees)
@@ -146,7 +146,7 @@ pub returns-clause-watches : goal.returns-clause-watches
 returns-clause-watches c =
     watches_there c.requires.there.0 c.args.self.now.kept c.self.inside.lines.items
     c.args.place c.index_mut.result.now c.state_of_line.new.line
-    (ap (λ (k : LinesKept). k.kept) c.self.view_is) c.requires.there.1.0
+    (ap (λ (k : LinesKept). k.kept) c.self.view_is) c.requires.there.1
     (there (goal.at.returns-clause-watches c).After-index_mut).1
 
 pub returns-clause-know : goal.returns-clause-know
