@@ -1,14 +1,18 @@
 -- The samples of a body, record by record and as a whole.
 use Rattle.std.proofs.Common.{◌≡◌, ◌∙◌, ap, sym, refl, append_assoc, zero-add, arith, ℕ, suc, ◌+◌}
 use Rattle.std.proofs.Common.{List, [], ◌∷◌, ◌++◌, length, Bool, true, false, cond, Option, Some}
-use Rattle.std.proofs.Common.{None, Result, Ok, Err}
+use Rattle.std.proofs.Common.{None, Result, Ok, Err, drop}
 use Rattle.std.specs.Prelude.{◌==◌, is_some}
 use Rattle.std.specs.List.{cons_option, filter_map}
 use Rattle.std.proofs.lemmas.Bool.Decides.{nat_tests}
-use Rattle.csv_records.specs.Records.{Fields}
+use Rattle.std.proofs.lemmas.List.{append-nil}
+use Rattle.csv_records.specs.Records.{Fields, csv_records}
+use Rattle.csv_records.proofs.Counts.{csv_records-few}
+use Rattle.plain_fields.specs.Lines.{IsLineStart}
 use Rattle.sample_book.specs.declared.row.Row.{Row}
-use Rattle.wire_routes.specs.RowByRow.{Adds, before_row, rows_behind, rows_from, rows_with}
-use Rattle.wire_routes.specs.Samples.{row_of, rows_before, rows_or_number}
+use Rattle.wire_routes.specs.RowByRow.{Adds, HaveRead, before_row, rows_behind, rows_from}
+use Rattle.wire_routes.specs.RowByRow.{rows_with}
+use Rattle.wire_routes.specs.Samples.{row_of, rows_before, rows_or_number, samples_of}
 
 behind_row : (rows : List Row) (row : Row) (rest : Result (List Row) ℕ)
     → rows_behind (rows ++ row ∷ []) rest ≡ rows_behind rows (before_row row rest)
@@ -85,3 +89,50 @@ pub none_so_far : (rows : List Row) (records left : List Fields) → rows ≡ []
     → rows_behind rows (rows_from 1 left) ≡ rows_or_number records
 none_so_far rows records left none all =
     rw (none, all) (nothing_behind (rows_from 1 records) ∙ as_a_whole records)
+
+-- no line so far
+pub lines_none : (body : List ℕ) (rows : List Row) → rows ≡ [] → IsLineStart body 0
+    → HaveRead body 1 0 rows
+lines_none body rows none start =
+    let same = start.first refl in
+    record {
+      so_far = none_so_far rows (csv_records body) (csv_records (10 ∷ body)) none (sym same);
+      start = start;
+      few = (let few = csv_records-few body in
+          let as_many = ap (λ (rs : List Fields). length rs) same in
+          omega (arith, few, as_many));
+    }
+
+-- one more line, which is a row
+pub lines_more : (body : List ℕ) (number at end : ℕ) (rows more : List Row) (fields : Fields)
+    → HaveRead body number at rows
+    → csv_records (10 ∷ drop at body) ≡ fields ∷ csv_records (10 ∷ drop end body)
+    → IsLineStart body end → Adds true (row_of fields) rows more
+    → HaveRead body (number + 1) end more
+lines_more body number at end rows more fields read is start added = record {
+  so_far = one_more rows more number (csv_records (10 ∷ drop at body)) fields
+      (csv_records (10 ∷ drop end body)) (samples_of body) read.so_far is added;
+  start = start;
+  few = (let fewer = ap (λ (rs : List Fields). length rs) is in
+      omega (arith, fewer, read.few));
+}
+
+-- the records of a text that are those behind the lines give what is left
+pub lines_then : (body : List ℕ) (number at : ℕ) (rows : List Row) (rest : List ℕ)
+    → HaveRead body number at rows → csv_records rest ≡ csv_records (10 ∷ drop at body)
+    → rows_behind rows (rows_from number (csv_records rest)) ≡ samples_of body
+lines_then body number at rows rest read is =
+    ap (λ (records : List Fields). rows_behind rows (rows_from number records)) is ∙ read.so_far
+
+-- no record is left
+pub lines_all : (body : List ℕ) (number at : ℕ) (rows : List Row) → HaveRead body number at rows
+    → csv_records (10 ∷ drop at body) ≡ [] → samples_of body ≡ Ok rows
+lines_all body number at rows read none =
+    sym read.so_far
+    ∙ ap (λ (records : List Fields). rows_behind rows (rows_from number records)) none
+    ∙ ap (λ (all : List Row). Ok all) (append-nil rows)
+
+-- the same error of a call that gives something else
+pub other_err : {A B E : Type 0} (x y : E) → ◌≡◌ {A = Result A E} (Err x) (Err y)
+    → ◌≡◌ {A = Result B E} (Err x) (Err y)
+other_err x y e = let same : x ≡ y = cc e in ap Err same

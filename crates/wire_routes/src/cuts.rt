@@ -2,7 +2,7 @@
 ghost use Rattle.std.specs.Prelude.{◌≡◌, option_map};
 ghost use Rattle.wire_routes.specs.Cuts.{after_word, cut_at, number32};
 
-use exact_fraction::read_number;
+use plain_fields::read_field_number;
 
 /// What follows the word that a text begins with.
 pub(crate) fn after_word<'a>(text: &'a [u8], word: &[u8]) -> Option<&'a [u8]>
@@ -31,6 +31,6 @@ pub(crate) fn cut_at(text: &[u8], byte: u8) -> Option<(&[u8], &[u8])>
 pub(crate) fn read_number32(digits: &[u8]) -> Option<u32>
     ensures { result ≡ number32 digits.now }
 {
-    let number = read_number(digits, u32::MAX as u64)?;
+    let number = read_field_number(digits, u64::from(u32::MAX))?;
     Some(number as u32)
 }

@@ -162,7 +162,14 @@ a,b,1,1,1 ~ Record(1)
 a,b,1,1,1,1,1 ~ Record(1)
 a,b c,1,1,1,1 ~ Record(1)
 a,b,1,1,1,1;  ~ Record(2)
-;a,b,1,1,1,1;;sli,source,minute,revision,amount,total;x ~ Record(2)";
+;a,b,1,1,1,1;;sli,source,minute,revision,amount,total;x ~ Record(2)
+a,b,1,1,1,1;a,b,2,1,1,2;\"a\",b,3,1,1,3;a,b,4,1,1,4; ~ \
+samples a b 1 1 1/1 a b 2 1 1/2 a b 3 1 1/3 a b 4 1 1/4
+a,b,1,1,1,1\r;a,b,2,1,1,2\r; ~ samples a b 1 1 1/1 a b 2 1 1/2
+\u{feff}a,b,1,1,1,1;a,b,2,1,1,2; ~ samples a b 1 1 1/1 a b 2 1 1/2
+a,b,1,1,1,1;a,b,2,0,1,1;a ~ Record(2)
+a,b,1,1,1,1;;a,b,2,1,1,1;x ~ Record(3)
+a,b,1,1,1,1;a,b,2,1,1,1,; ~ Record(2)";
 
 const EXCLUSIONS: &str = "\
 {\"from\":0,\"slo\":\"Shop.1\",\"to\":4294967295} ~ exclude night Shop.1 0 4294967295

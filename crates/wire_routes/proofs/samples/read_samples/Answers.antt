@@ -1,29 +1,6 @@
-use Rattle.std.proofs.Common.{ap, arith, length, List, true, subst}
-use Rattle.csv_records.specs.Records.{Fields, Takes, csv_records}
-use Rattle.wire_routes.specs.RowByRow.{Adds}
-use Rattle.wire_routes.specs.Samples.{row_of, samples_of}
-use Rattle.wire_routes.proofs.RowLemmas.{none_so_far, one_more}
+use Rattle.wire_routes.proofs.RowLemmas.{other_err}
 use Rattle.wire_routes.proofs.samples.read_samples.Goals as goal
 
-pub records-init : goal.records-init
-records-init c = record {
-  so_far = none_so_far c.new-rows.result (csv_records c.args.body.now) c.new-reader.result
-      c.new-rows.ensures c.new-reader.ensures.records;
-  few = (let few = c.new-reader.ensures.few in omega arith);
-}
-
-pub records-preserved : goal.records-preserved
-records-preserved c =
-    let taken : Takes true c.records.reader c.read.new.into c.read.new.self =
-    subst (λ b. Takes b c.records.reader c.read.new.into c.read.new.self) c.if-branch.true
-    c.in_ok-read.ensures.reads in
-    let added : Adds true (row_of c.read.new.into) c.records.rows c.add_row.new.rows =
-    subst (λ b. Adds b (row_of c.read.new.into) c.records.rows c.add_row.new.rows)
-    c.if-not-branch.false c.in_ok-add_row.ensures in
-    record {
-      so_far = one_more c.records.rows c.add_row.new.rows c.records.number c.records.reader
-          c.read.new.into c.read.new.self (samples_of c.args.body.now)
-          c.records.invariant.so_far taken added;
-      few = (let fewer = ap (λ (rs : List Fields). length rs) taken in
-          let few = c.records.invariant.few in omega arith);
-    }
+pub returns-in-Err-clause-fault : goal.returns-in-Err-clause-fault
+returns-in-Err-clause-fault c = λ number e.
+    c.in-Err.ensures.fault number (other_err c.in-Err.fault _ e)
