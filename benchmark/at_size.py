@@ -164,8 +164,8 @@ def longest():
                     for n in range(3):
                         (made if n else parted).append(took(session, message("PUT", f"/exclusions/w{n}", whole % (office.first, first, office.last))))
                         lifted.append(took(session, message("DELETE", f"/exclusions/w{n}")))
-            tell(f"{what}: the first of its SLO, whose sums are made anew", parted, "100")
-            tell(f"{what}: another one", made, "100")
+            tell(f"{what}: the first of its SLO, whose sums are copied", parted, "100")
+            tell(f"{what}: another one, behind its lifting", made, "100")
             tell(f"{what}: its lifting", lifted, aim)
     # of more cells the days of so many objectives would pass their limit
     few = min(cells, 100_000)
