@@ -15,8 +15,8 @@ still c =
     subst (λ (ws : List Watch). slice_get ws c.place_near-place.result ≡ Some c.args.watch.now)
     (sym c.remember.ensures.watches) c.place_near-place.ensures
 
-pub remember-requires-clause-within : goal.remember-requires-clause-within
-remember-requires-clause-within c =
+pub remember-requires : goal.remember-requires
+remember-requires c =
     within c.args.watch.now c.args.self.now.kept c.place_near-place.result
     c.place_near-place.ensures
 
