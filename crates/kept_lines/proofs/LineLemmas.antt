@@ -223,7 +223,8 @@ pub keeps_bound : (begin : ℕ) (members : List Object) (s : Samples) (w : Watch
     KeepsLines begin members s (slice_set items place (with_bound k b))
 keeps_bound begin members s w kept items place k b same at keeps e watches =
     let here = found begin s w kept items place k same keeps.right e at in
-    subst (λ (ks : List WatchLine). KeepsLines begin members s (slice_set ks place (with_bound k b)))
+    subst (λ (ks : List WatchLine). KeepsLines begin members s
+    (slice_set ks place (with_bound k b)))
     (sym same)
     (keeps_on begin members s kept place w (with_bound k b) keeps e
     (watched_there members kept place w keeps.only e) here.1 here.0

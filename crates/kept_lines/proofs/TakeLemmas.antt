@@ -127,19 +127,20 @@ pub taken : (begin : ℕ) (before after : List Object) (s : Samples) (plan : Lin
     Contains (watches_of left) w) → watches_of new ≡ watches_of left →
     lines_of new ≡ lines_of left → AllByRecursion (λ (k : WatchLine). k.bound ≡ None) new →
     KeepsLines begin after s new
-taken begin before after s plan old left new keeps is right wanted there watches lines free = record {
-  right = right_still begin s left new watches lines
-      (right keeps.right (fresh_right begin s plan.made.items is.fresh));
-  only = by_watches (IsWatched after) new
-      (subst (AllByRecursion (IsWatched after)) (sym watches)
-      (of_watches (IsWatched after) left
-      (wanted_each watch_of_line (IsWatched after) plan.wanted.items left is.only wanted)));
-  all = λ w has.
-      let want = is.all w has in
-      subst (λ (ws : List Watch). Contains ws w) (sym watches)
-      (there w want (by w (is.there w want)));
-  bound = none_bound after new free;
-}
+taken begin before after s plan old left new keeps is right wanted there watches lines free =
+    record {
+      right = right_still begin s left new watches lines
+          (right keeps.right (fresh_right begin s plan.made.items is.fresh));
+      only = by_watches (IsWatched after) new
+          (subst (AllByRecursion (IsWatched after)) (sym watches)
+          (of_watches (IsWatched after) left
+          (wanted_each watch_of_line (IsWatched after) plan.wanted.items left is.only wanted)));
+      all = λ w has.
+          let want = is.all w has in
+          subst (λ (ws : List Watch). Contains ws w) (sym watches)
+          (there w want (by w (is.there w want)));
+      bound = none_bound after new free;
+    }
   where
     by : (w : Watch) → Contains (watches_of plan.made.items) w ⊎ IsWatched before w →
         Contains (watches_of old) w ⊎ Contains (watches_of plan.made.items) w

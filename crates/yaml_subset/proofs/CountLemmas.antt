@@ -11,7 +11,6 @@ use Rattle.std.proofs.lemmas.List.{length-map}
 use Rattle.std.proofs.lemmas.List.Splits.{length-slice_split}
 use Rattle.std.proofs.lemmas.List.Sums.{count_by-le-length}
 use Rattle.yaml_terms.specs.Tree.{Tree, mapping, scalar, no_entries}
-use Rattle.yaml_terms.specs.Tree.{item}
 use Rattle.yaml_terms.specs.Mark.{Mark, start, dash, key, value, header, raw, Child}
 use Rattle.yaml_terms.specs.Profile.{max_depth, documents, is_repeated}
 use Rattle.yaml_terms.specs.Profile.{with_child, or_no_text, Pieces, last_piece, piece, with_first}

@@ -1,4 +1,4 @@
-use Rattle.std.proofs.Common.{◌≡◌, ◌||◌, ◌++◌, List, [], ◌∷◌, Option, true, false, not, subst, ap}
+use Rattle.std.proofs.Common.{◌≡◌, ◌||◌, ◌++◌, [], ◌∷◌, Option, true, false, not, subst, ap}
 use Rattle.std.proofs.Common.{map, option_map, ◌∙◌}
 use Rattle.std.specs.Option.{is_some, IfSome}
 use Rattle.std.specs.List.{list_any}

@@ -1,4 +1,5 @@
-use Rattle.std.proofs.Common.{◌≡◌, ◌<◌, ◌∙◌, None, ap, arith, length, refl, slice_index_or, subst, sym}
+use Rattle.std.proofs.Common.{◌≡◌, ◌<◌, ◌∙◌, None, ap, arith, length, refl, slice_index_or}
+use Rattle.std.proofs.Common.{subst, sym}
 use Rattle.std.specs.List.{AllByRecursion}
 use Rattle.kept_sums.proofs.Loops.{all_units, half_end, half_step, keys_set, written_back}
 use Rattle.kept_lines.specs.Lines.{LinesKept, lines_of, watches_of}

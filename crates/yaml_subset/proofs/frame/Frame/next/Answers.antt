@@ -13,8 +13,9 @@ returns-in-Key c = IfOk-weaker c.next_entry.result _ _
     c.next_entry.ensures
 
 pub returns-in_ok-items-in-List : goal.returns-in_ok-items-in-List
-returns-in_ok-items-in-List c = list_goes c.in-List.column c.in-List.items c.in_ok-items-in-List.items
-    c.args.self (mark_view c.args.mark) (option_map node_view c.args.value) c.in-List.is c.requires
+returns-in_ok-items-in-List c =
+    list_goes c.in-List.column c.in-List.items c.in_ok-items-in-List.items c.args.self
+    (mark_view c.args.mark) (option_map node_view c.args.value) c.in-List.is c.requires
     c.in_ok-items-in-List.ensures
 
 pub returns-in_err-items-in-List : goal.returns-in_err-items-in-List
