@@ -1,4 +1,4 @@
-use Rattle.std.proofs.Common.{◌<◌, ap, arith, length, refl, subst, sym, ◌∙◌}
+use Rattle.std.proofs.Common.{ap, ◌∙◌}
 use Rattle.kept_sums.proofs.Loops.{keys_set}
 use Rattle.kept_lines.specs.Lines.{LinesKept, watches_of}
 use Rattle.kept_lines.specs.declared.kept.WatchLine.{WatchLine}

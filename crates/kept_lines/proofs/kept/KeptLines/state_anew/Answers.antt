@@ -16,9 +16,11 @@ still c =
     (sym c.remember.ensures.watches) c.place_near-place.ensures
 
 pub remember-requires : goal.remember-requires
-remember-requires c =
-    within c.args.watch.now c.args.self.now.kept c.place_near-place.result
-    c.place_near-place.ensures
+remember-requires c = record {
+  within =
+      within c.args.watch.now c.args.self.now.kept c.place_near-place.result
+      c.place_near-place.ensures;
+}
 
 pub state_in-requires-clause-lines : goal.state_in-requires-clause-lines
 state_in-requires-clause-lines c =

@@ -1,4 +1,3 @@
-use Rattle.kept_lines.specs.Sums.{samples_of}
 use Rattle.kept_lines.proofs.kept.KeptLines.state_at.Goals as goal
 
 pub state_in-requires-clause-there : goal.state_in-requires-clause-there
