@@ -188,6 +188,7 @@ lifting_lines d d' o m id value kept n r' lifts keeps =
           (made_anew d.book.exclusions d'.book.exclusions value lifts) keeps.right;
       only = keeps.only;
       all = keeps.all;
+      bound = keeps.bound;
     }
 
 live_where : (kept : Option (Exclusion × Bool)) (n : ℕ) (value : Exclusion) (live : Bool) →
