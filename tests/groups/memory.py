@@ -21,7 +21,7 @@ from office import EXAMPLES, Answer, Office, answers, define, message
 from report import Report, Skipped
 
 ORIGIN = 29_000_000
-STRIDE, SHARED_STRIDE = 7, 97
+STRIDE, SHARED_STRIDE = 7, 41
 
 LIBRARY = r"""
 #define _GNU_SOURCE
