@@ -5,12 +5,19 @@ use Rattle.std.proofs.Common.{subst, sym}
 use Rattle.std.specs.Prelude.{Result, IfOk}
 use Rattle.std.proofs.lemmas.List.{append-nil}
 use Rattle.csv_records.specs.Records.{Fields, csv_records}
+use Rattle.event_fields.specs.Events.{event_of}
+use Rattle.event_fields.specs.declared.Event.{Event}
+use Rattle.event_fields.specs.declared.EventFault.{EventFault}
+use Rattle.event_lines.specs.Lines.{IsEventLine, event_with}
+use Rattle.event_lines.specs.declared.EventLine.{EventLine}
 use Rattle.plain_fields.specs.Lines.{StandsBehindFeed}
 use Rattle.plain_fields.proofs.PlaceLemmas.{feed_first, none_left}
-use Rattle.slo_limits.specs.declared.TheConstants.{MAX_CELLS}
+use Rattle.sample_book.specs.declared.Row.{Row}
+use Rattle.slo_limits.specs.declared.TheConstants.{MAX_AMOUNT, MAX_CELLS}
 use Rattle.slo_terms.specs.Judged.{judged_from}
-use Rattle.budget_command.specs.Records.{IsCounted, outcome, outcome_over}
-use Rattle.budget_command.specs.Tables.{AreAll, HasTakenRecord, HaveTakenLines, IsBroken, IsFit}
+use Rattle.budget_command.specs.Records.{IsCounted, of_row, outcome, outcome_over, row_read}
+use Rattle.budget_command.specs.Tables.{AreAll, BreaksRule, HasTaken, HasTakenLine}
+use Rattle.budget_command.specs.Tables.{HasTakenRecord, HaveTakenLines, IsBroken, IsDraft, IsFit}
 use Rattle.budget_command.specs.Tables.{tallies_in}
 use Rattle.budget_command.specs.declared.fault.RecordFault.{RecordFault}
 use Rattle.budget_command.specs.declared.table.Table.{Table}
@@ -134,3 +141,40 @@ lines-all part number first old new at next last lines goes before all =
     subst (λ (records : List Fields). AreAll records last new)
     (behind_lines part number first old at next lines before)
     (goes (before ++ lines.records) (lines.all before all))
+
+-- what a line's record comes to is what comes of its drafted row
+judged_draft : (line : EventLine) (row : Row) (rows : List Row) (draft : IsDraft line row)
+    (fields : Fields) → event_of MAX_AMOUNT fields ≡ Ok (event_with draft.label line)
+    → outcome_over rows fields ≡ of_row rows (Ok row)
+judged_draft line row rows draft fields event =
+    ap (λ (read : Result Event EventFault). of_row rows (row_read read)) event
+    ∙ ap (λ (r : Row). of_row rows (Ok r)) (sym draft.row_is)
+
+-- a line whose drafted row is taken
+pub draft-taken : (part : List ℕ) (at : ℕ) (line : EventLine) (row : Row) (old new : Table)
+    → (draft : IsDraft line row) → IsEventLine MAX_AMOUNT part at line draft.label
+    → of_row old.book.rows (Ok row) ≡ Ok row → HasTaken row old new
+    → HasTakenLine part at line.end old new
+draft-taken part at line row old new draft event kept taken = record {
+  fields = event.fields;
+  line = event.records;
+  behind = event.behind;
+  taken = record {
+    row = row;
+    judged = judged_draft line row old.book.rows draft event.fields event.event ∙ kept;
+    counted = draft.counted;
+    taken = taken;
+  };
+}
+
+-- a line whose drafted row breaks a rule
+pub draft-broken : (part : List ℕ) (at : ℕ) (line : EventLine) (row : Row) (old : Table)
+    (fault : RecordFault) → (draft : IsDraft line row)
+    → IsEventLine MAX_AMOUNT part at line draft.label
+    → of_row old.book.rows (Ok row) ≡ Err fault → BreaksRule part at old fault
+draft-broken part at line row old fault draft event broken = record {
+  fields = event.fields;
+  end = line.end;
+  line = event.records;
+  broken = judged_draft line row old.book.rows draft event.fields event.event ∙ broken;
+}

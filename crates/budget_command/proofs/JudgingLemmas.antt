@@ -11,6 +11,7 @@ use Rattle.csv_records.proofs.Counts.{csv_records-few}
 use Rattle.slo_terms.specs.Judged.{judged_from}
 use Rattle.budget_command.specs.Records.{IsCounted, outcome}
 use Rattle.budget_command.specs.Tables.{AreAll, CanGoOn, ComesTo, HasJudged, HasJudgedTo, IsEmpty}
+use Rattle.budget_command.specs.declared.drafts.Drafts.{Drafts}
 use Rattle.budget_command.specs.declared.fault.RecordFault.{RecordFault}
 use Rattle.budget_command.specs.declared.judging.Judging.{Judging}
 use Rattle.budget_command.specs.declared.table.Table.{Table}
@@ -28,9 +29,9 @@ on_ok-holds P (Ok value) e holds = holds
 on_ok-holds P (Err error) e holds = cc e
 
 -- nothing was judged
-pub judged-none : (table : Table) → IsEmpty table
-    → HasJudged [] (record { table = table; number = 1; fault = None })
-judged-none table empty = record {
+pub judged-none : (table : Table) (drafts : Drafts) → IsEmpty table
+    → HasJudged [] (record { table = table; number = 1; fault = None; drafts = drafts })
+judged-none table drafts empty = record {
   comes = so_far-none [] [] table refl empty;
   going = λ unbroken. record {
     fit = record {
@@ -58,12 +59,13 @@ judged-broken before more judging fault is judged = record {
 }
 
 -- A part whose records keep the rules, and one with a record that breaks one.
-pub judged-more : (before more : List Fields) (old : Judging) (table : Table) (next : ℕ)
-    → old.fault ≡ None → HasJudged before old →
+pub judged-more : (before more : List Fields) (old : Judging) (table : Table) (drafts : Drafts)
+    (next : ℕ) → old.fault ≡ None → HasJudged before old →
     (AreAll before old.number old.table → AreAll (before ++ more) next table) → CanGoOn table next
     → next ≤ old.number + length more →
-    HasJudged (before ++ more) (record { table = table; number = next; fault = old.fault })
-judged-more before more old table next unbroken judged goes going few = record {
+    HasJudged (before ++ more)
+    (record { table = table; number = next; fault = old.fault; drafts = drafts })
+judged-more before more old table drafts next unbroken judged goes going few = record {
   comes = subst (λ (f : Option RecordFault). ComesTo (before ++ more) f next table) (sym unbroken)
       (goes (subst (λ (f : Option RecordFault). ComesTo before f old.number old.table) unbroken
       judged.comes));
@@ -71,13 +73,14 @@ judged-more before more old table next unbroken judged goes going few = record {
   numbered = omega (arith, judged.numbered, few, length-append before more);
 }
 
-pub judged-fault : (before more : List Fields) (old : Judging) (table : Table) (at : ℕ)
-    (fault : RecordFault) → old.fault ≡ None → HasJudged before old →
+pub judged-fault : (before more : List Fields) (old : Judging) (table : Table) (drafts : Drafts)
+    (at : ℕ) (fault : RecordFault) → old.fault ≡ None → HasJudged before old →
     (AreAll before old.number old.table → judged_from outcome [] 1 (before ++ more)
     ≡ Err (at, fault))
     → at ≤ old.number + length more →
-    HasJudged (before ++ more) (record { table = table; number = at; fault = Some fault })
-judged-fault before more old table at fault unbroken judged goes few = record {
+    HasJudged (before ++ more)
+    (record { table = table; number = at; fault = Some fault; drafts = drafts })
+judged-fault before more old table drafts at fault unbroken judged goes few = record {
   comes = goes (subst (λ (f : Option RecordFault). ComesTo before f old.number old.table) unbroken
       judged.comes);
   going = λ e. absurd (cc e);

@@ -1,18 +1,20 @@
 -- What is kept of the rows that came, while the records of a text are judged one after another.
 use Rattle.std.specs.Prelude.{◌≡◌, ◌+◌, ◌≤◌, ℕ, Bool, List, [], ◌∷◌, ◌++◌, Option, Some, None}
-use Rattle.std.specs.Prelude.{Result, Ok, Err, All, count_by}
+use Rattle.std.specs.Prelude.{Ok, Err, All, count_by}
 use Rattle.std.specs.Prelude.{drop, length, if◌then◌else◌}
 use Rattle.csv_records.specs.Parts.{PartsAreRead}
 use Rattle.csv_records.specs.Records.{Fields, csv_records}
+use Rattle.exact_fraction.specs.Label.{label_of}
+use Rattle.event_lines.specs.Lines.{event_with}
+use Rattle.event_lines.specs.declared.EventLine.{EventLine}
 use Rattle.plain_fields.specs.Lines.{StandsBehindFeed}
 use Rattle.slo_limits.specs.declared.TheConstants.{MAX_CELLS}
 use Rattle.slo_terms.specs.Judged.{judged_from}
 use Rattle.sample_book.specs.declared.Row.{Row}
-use Rattle.sample_book.specs.declared.RowVerdict.{RowVerdict}
 use Rattle.sample_book.specs.History.{is_put}
 use Rattle.sample_book.specs.Rows.{current_rows, verdict_of}
 use Rattle.budget_command.specs.Records.{IsCounted, is_newer, is_repeated, is_superseded, outcome}
-use Rattle.budget_command.specs.Records.{outcome_over, verdicts}
+use Rattle.budget_command.specs.Records.{outcome_over, row_of, verdicts}
 use Rattle.budget_command.specs.declared.fault.RecordFault.{RecordFault}
 use Rattle.budget_command.specs.declared.judging.Judging.{Judging}
 use Rattle.budget_command.specs.declared.table.Table.{Table}
@@ -51,6 +53,28 @@ pub record HasTakenRecord (fields : Fields) (old new : Table) : Type 0 where
   pub judged : outcome_over old.book.rows fields ≡ Ok row
   pub counted : IsCounted row
   pub taken : HasTaken row old new
+
+-- the row of a line, whose source is a label
+pub record IsDraft (line : EventLine) (row : Row) : Type 0 where
+  pub label : List ℕ
+  pub source : label_of line.source.now ≡ Some label
+  pub row_is : row ≡ row_of (event_with label line)
+  pub counted : IsCounted row
+
+-- A table with the row of one more line of a part, which keeps the rules; the next line begins
+-- behind it.
+pub record HasTakenLine (part : List ℕ) (at end : ℕ) (old new : Table) : Type 0 where
+  pub fields : Fields
+  pub line : csv_records (10 ∷ drop at part) ≡ fields ∷ csv_records (10 ∷ drop end part)
+  pub behind : StandsBehindFeed part end
+  pub taken : HasTakenRecord fields old new
+
+-- the line at a place of a part breaks a rule over a table
+pub record BreaksRule (part : List ℕ) (at : ℕ) (table : Table) (fault : RecordFault) : Type 0 where
+  pub fields : Fields
+  pub end : ℕ
+  pub line : csv_records (10 ∷ drop at part) ≡ fields ∷ csv_records (10 ∷ drop end part)
+  pub broken : outcome_over table.book.rows fields ≡ Err fault
 
 -- The rows that came of the records so far are kept as their current rows, with what became of
 -- them.

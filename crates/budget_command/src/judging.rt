@@ -4,6 +4,7 @@ ghost use Rattle.std.specs.Prelude.{OnOk, length, take};
 ghost use Rattle.csv_records.specs.Records.{Fields, csv_records};
 ghost use Rattle.budget_command.specs.Tables.{CanGoOn, HasJudged, HasJudgedTo};
 
+use crate::drafts::Drafts;
 use crate::fault::RecordFault;
 use crate::table::{Table, TableFault, fill};
 use csv_records::WaitingText;
@@ -18,6 +19,8 @@ pub struct Judging {
     pub number: u64,
     /// The rule that the first such record broke. No record behind it is judged.
     pub fault: Option<RecordFault>,
+    /// Rows of the sources that came.
+    drafts: Drafts,
 }
 
 impl Judging {
@@ -30,6 +33,7 @@ impl Judging {
             table,
             number: 1,
             fault: None,
+            drafts: Drafts::new(),
         }
     }
 
@@ -41,7 +45,7 @@ impl Judging {
         ensures { OnOk result ((before : List Fields) → HasJudged before self.old →
             HasJudged (before ++ csv_records part.now) self.new) }
     {
-        match fill(&mut self.table, alloc, self.number, part) {
+        match fill(&mut self.table, &mut self.drafts, alloc, self.number, part) {
             Ok(next) => {
                 self.number = next;
                 Ok(())

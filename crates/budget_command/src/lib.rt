@@ -4,6 +4,7 @@
 #![tactic(auto)]
 
 mod answer;
+mod drafts;
 mod fault;
 mod input;
 mod judging;

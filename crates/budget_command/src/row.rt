@@ -17,7 +17,7 @@ pub fn indicator() -> Label
 }
 
 /// A number of events, as a row keeps it.
-fn events_kept(number: u64) -> u32
+pub(crate) fn events_kept(number: u64) -> u32
     requires { number ≤ MAX_AMOUNT }
     ensures { result ≡ number }
 {

@@ -1,19 +1,23 @@
 //! The rows of a CSV text, judged record by record and kept in a book.
 ghost use Rattle.std.specs.Prelude.{◌≡◌, ◌+◌, ◌++◌, ◌≤◌, ℕ, List, Err, Ok, IfNone, IfOk, IfSome};
-ghost use Rattle.std.specs.Prelude.{OnOk, ◌∷◌, drop, length, true};
+ghost use Rattle.std.specs.Prelude.{None, OnOk, ◌∷◌, drop, length, true};
 ghost use Rattle.csv_records.specs.Records.{Fields, csv_records};
+ghost use Rattle.event_fields.specs.Events.{AreCounted, event_of};
 ghost use Rattle.plain_fields.specs.Lines.{StandsBehindFeed, five_of};
 ghost use Rattle.budget_command.specs.Records.{BUDGET, is_newer as is_newer_def};
 ghost use Rattle.budget_command.specs.Records.{is_repeated as is_repeated_def};
 ghost use Rattle.budget_command.specs.Records.{is_superseded as is_superseded_def, outcome_over};
 ghost use Rattle.budget_command.specs.Records.{IsCounted, of_row, row_by_verdict};
-ghost use Rattle.budget_command.specs.Tables.{AreAll, HasTaken, HasTakenRecord, HaveTakenLines};
-ghost use Rattle.budget_command.specs.Tables.{IsBroken, IsEmpty, IsFit, tallies_in};
+ghost use Rattle.budget_command.specs.Tables.{AreAll, BreaksRule, HasTaken, HasTakenLine};
+ghost use Rattle.budget_command.specs.Tables.{HasTakenRecord, HaveTakenLines, IsBroken, IsEmpty};
+ghost use Rattle.budget_command.specs.Tables.{IsFit, tallies_in};
 
+use crate::drafts::Drafts;
 use crate::fault::RecordFault;
 use crate::row::{indicator, row_of};
 use csv_records::{Record, RecordReader};
 use event_fields::{Sources, read_event, read_fields};
+use event_lines::read_event_line;
 use exact_fraction::Label;
 use plain_fields::{LineOfFive, read_five, text_behind};
 use sample_book::{CurrentRows, Row, RowVerdict};
@@ -180,7 +184,7 @@ impl Table {
         }
     }
 
-    /// The same of a line.
+    /// Takes the line of this number, or finds the rule that it breaks.
     fn take_line(
         &mut self,
         sli: &Label,
@@ -202,6 +206,45 @@ impl Table {
             Err(fault) => Err(TableFault::Broken { number, fault }),
         }
     }
+
+    /// Takes the line of this number at a place behind a line feed, and answers the place behind
+    /// it; none where it isn't plain. Most lines are read in one pass, the others field by field.
+    fn take_next(
+        &mut self,
+        sli: &Label,
+        drafts: &mut Drafts,
+        number: u64,
+        part: &[u8],
+        at: usize,
+    ) -> Result<Option<usize>, TableFault>
+        requires indicator { sli.now ≡ BUDGET }
+        requires behind { StandsBehindFeed part.now at }
+        requires tallied { tallies_in self.old + 1 ≤ number }
+        requires few { length self.old.book.rows ≤ MAX_CELLS }
+        ensures taken { IfOk result (λ next. IfSome next (λ end.
+            HasTakenLine part.now at end self.old self.new)) }
+        ensures same { result ≡ Ok None → self.new ≡ self.old }
+        ensures few { OnOk result (length self.new.book.rows ≤ MAX_CELLS) }
+        ensures broken { (place : ℕ) (fault : RecordFault) →
+            result ≡ Err (TableFault.Broken place fault) →
+            (place ≡ number) × BreaksRule part.now at self.old fault }
+    {
+        if let Some(line) = read_event_line(part, at, u64::from(MAX_AMOUNT)) {
+            if let Some(row) = drafts.draft(sli, &line) {
+                return match self.take(number, row) {
+                    Ok(()) => Ok(Some(line.end)),
+                    Err(fault) => Err(fault),
+                };
+            }
+        }
+        match read_five(part, at) {
+            Some(line) => match self.take_line(sli, &mut drafts.sources, number, &line) {
+                Ok(()) => Ok(Some(line.end)),
+                Err(fault) => Err(fault),
+            },
+            None => Ok(None),
+        }
+    }
 }
 
 /// Whether a text begins with a line feed.
@@ -216,7 +259,7 @@ fn begins_with_feed(text: &[u8]) -> bool
 fn fill_lines(
     table: &mut Table,
     sli: &Label,
-    sources: &mut Sources,
+    drafts: &mut Drafts,
     number: u64,
     part: &[u8],
 ) -> Result<LinesEnd, TableFault>
@@ -233,14 +276,12 @@ fn fill_lines(
     let mut next = number;
     let mut at: usize = 1;
     'lines: loop {
-        let Some(line) = read_five(part, at) else {
-            return Ok(LinesEnd { number: next, at });
-        };
-        match table.take_line(sli, sources, next, &line) {
-            Ok(()) => {
+        match table.take_next(sli, drafts, next, part, at) {
+            Ok(Some(end)) => {
                 next += 1;
-                at = line.end;
+                at = end;
             }
+            Ok(None) => return Ok(LinesEnd { number: next, at }),
             Err(fault) => return Err(fault),
         }
     }
@@ -320,6 +361,7 @@ fn fill_rest(
 /// line feed are read where they stand.
 pub(crate) fn fill(
     table: &mut Table,
+    drafts: &mut Drafts,
     alloc: Global,
     number: u64,
     part: &[u8],
@@ -336,12 +378,19 @@ pub(crate) fn fill(
         result ≡ Err (TableFault.Broken at fault) → IsBroken part.now number table.old at fault }
 {
     let sli = indicator();
-    let mut sources = Sources::new();
     if !begins_with_feed(part) {
-        return fill_records(table, alloc, &sli, &mut sources, number, part);
+        return fill_records(table, alloc, &sli, &mut drafts.sources, number, part);
     }
-    match fill_lines(table, &sli, &mut sources, number, part) {
-        Ok(end) => fill_rest(table, alloc, &sli, &mut sources, end.number, part, end.at),
+    match fill_lines(table, &sli, drafts, number, part) {
+        Ok(end) => fill_rest(
+            table,
+            alloc,
+            &sli,
+            &mut drafts.sources,
+            end.number,
+            part,
+            end.at,
+        ),
         Err(fault) => Err(fault),
     }
 }
