@@ -2,3 +2,4 @@ pub mod DayLemmas
 pub mod RaisedLemmas
 mod PageFacts
 mod PagesFacts
+mod SlotLemmas

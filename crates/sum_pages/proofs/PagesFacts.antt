@@ -27,6 +27,10 @@ hour-some n divides = pos_of_dvd_of_pos divides (omega arith)
 pub hour-few : (n : ℕ) → n ∣ 60 → n ≤ 60
 hour-few n divides = le_of_dvd (omega arith) divides
 
+-- a day has slots
+pub day-some : (pages : LeafDays) → ArePages pages → 0 < slots_a_day pages
+day-some pages are = omega (arith, hour-some pages.per_hour are.divides)
+
 -- the same leaves at other places have the same sum
 leaves_over-moved : (f g : ℕ → Leaf) (first other count : ℕ)
     → ((i : ℕ) → i < count → f (first + i) ≡ g (other + i))

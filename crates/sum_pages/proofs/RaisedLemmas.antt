@@ -1,6 +1,6 @@
 -- How far one leaf can raise the sums.
 use Rattle.std.proofs.Common.{◌≡◌, ◌≢◌, ◌⊎◌, ℕ, ◌+◌, ◌≤◌, ◌<◌, nat_eq, nat_le, true, false, inl}
-use Rattle.std.proofs.Common.{inr, refl, sym, ap, subst, arith}
+use Rattle.std.proofs.Common.{inr, refl, arith}
 use Rattle.std.proofs.lemmas.Cmp.{nat_eq_equiv}
 use Rattle.std.proofs.lemmas.Bool.Decides.{eqb_tells, leb_tells}
 use Rattle.exact_fraction.specs.declared.leaf.Leaf.{Leaf}

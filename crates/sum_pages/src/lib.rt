@@ -5,6 +5,7 @@
 
 mod days;
 mod page;
+mod slots;
 mod steps;
 mod sum_pages;
 

@@ -9,6 +9,7 @@ ghost use Rattle.sum_pages.specs.Pages.{has_day, leaf_after, leaf_at, leaf_in, s
 
 use crate::days::value_on;
 use crate::page::{HOURS_A_DAY, NO_LEAF, Page};
+use crate::slots::HourSlots;
 use crate::steps::Steps;
 use exact_fraction::Leaf;
 use indexmap::IndexMap;
@@ -23,7 +24,7 @@ use std::sync::ledger::Ledger;
 /// without taking steps.
 #[derive(Drop)]
 pub struct SumPages {
-    per_hour: u32,
+    per_hour: HourSlots,
     pages: IndexMap<u32, Page>,
 }
 
@@ -46,7 +47,7 @@ impl SumPages {
         ensures days { result.days ≡ [] }
     {
         SumPages {
-            per_hour,
+            per_hour: HourSlots::new(per_hour),
             pages: IndexMap::new(alloc),
         }
     }
@@ -61,7 +62,7 @@ impl SumPages {
     {
         let pages = self.pages.clone()?;
         Ok(SumPages {
-            per_hour: self.per_hour,
+            per_hour: self.per_hour.copy(),
             pages,
         })
     }
@@ -70,7 +71,7 @@ impl SumPages {
     pub fn sound(&self)
         ensures { AreSound (leaf_at self.now) }
     {
-        let _per_hour = self.per_hour;
+        let _per_hour = &self.per_hour;
     }
 
     /// How many slots an hour has.
@@ -79,7 +80,7 @@ impl SumPages {
         ensures some { 0 < result }
         ensures few { result ≤ 60 }
     {
-        self.per_hour
+        self.per_hour.count()
     }
 
     /// Whether a day is there.
@@ -101,7 +102,7 @@ impl SumPages {
             return Ok(());
         }
         let alloc = *self.pages.allocator();
-        let page = Page::empty(alloc, self.per_hour)?;
+        let page = Page::empty(alloc, self.per_hour.count())?;
         self.pages.insert(day, page)?;
         Ok(())
     }
@@ -123,7 +124,7 @@ impl SumPages {
             &mut self.pages,
             slot / slots,
             place,
-            self.per_hour as usize,
+            self.per_hour.count() as usize,
             value,
         );
     }
@@ -134,9 +135,9 @@ impl SumPages {
         ensures cost { steps.new ≡ steps.old + 1 }
     {
         steps.tick();
-        let slots = self.slots_a_day();
-        match value_on(&self.pages, slot / slots) {
-            Some(page) => page.leaf((slot % slots) as usize),
+        let (day, place) = self.per_hour.place_of(slot);
+        match value_on(&self.pages, day) {
+            Some(page) => page.leaf(place as usize),
             None => NO_LEAF,
         }
     }
@@ -172,7 +173,7 @@ impl SumPages {
         ensures value { result ≡ slots_a_day self.now }
         ensures some { 0 < result }
     {
-        HOURS_A_DAY * self.per_hour
+        HOURS_A_DAY * self.per_hour.count()
     }
 }
 

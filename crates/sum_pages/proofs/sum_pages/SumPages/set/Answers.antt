@@ -1,6 +1,6 @@
 use Rattle.std.proofs.Common.{◌≡◌, ◌≤◌, ◌<◌, ◌/◌, ◌%◌, ap, sym, subst, ◌∙◌, nat_eq, is_some, IsTrue}
-use Rattle.std.proofs.Common.{length, slice_set}
-use Rattle.std.specs.Map.{lookup, set_value}
+use Rattle.std.proofs.Common.{◌*◌, length, slice_set}
+use Rattle.std.specs.Map.{lookup}
 use Rattle.slo_terms.specs.Sums.{AreFew, leaves_over, most_events}
 use Rattle.sum_pages.specs.DayTables.{values_of_day}
 use Rattle.sum_pages.specs.Pages.{ArePages, LeafDays, has_day, leaf_after, leaf_at, leaf_in}
@@ -43,6 +43,7 @@ set_in-requires-clause-hours c =
     subst (λ n. length (values_of_day (before at).days (c.args.slot / n)) ≡ slots_a_day (before at))
     (sym (slots at))
     (day_whole (before at) (c.args.slot / slots_a_day (before at)) c.self.invariant (there at))
+    ∙ ap (λ n. 24 * n) (sym c.count.ensures)
 
 pub set_in-requires-clause-few : goal.set_in-requires-clause-few
 set_in-requires-clause-few c =
