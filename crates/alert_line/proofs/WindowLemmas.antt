@@ -7,6 +7,7 @@ use Rattle.std.proofs.lemmas.Bool.Decides.{leb_tells}
 use Rattle.exact_fraction.specs.declared.leaf.Leaf.{Leaf}
 use Rattle.slo_terms.specs.Sums.{leaves_over, slice_from, slices_until}
 use Rattle.slo_terms.proofs.RangeLemmas.{no_term, sum_over-next, sum_over-rest}
+use Rattle.alert_line.specs.Cursor.{IsOver}
 
 -- where a slice is a minute, the slices are the minutes
 pub from-minutes : (w minute : ℕ) → w ≡ 1 → minute ≡ slice_from w minute
@@ -94,3 +95,29 @@ leaves-none leaf first to n e = rw e (λ i.
       num = (no_term (λ k. (leaf k).num) first ∙ sym (no_term (λ k. (leaf k).num) to)) i;
       den = (no_term (λ k. (leaf k).den) first ∙ sym (no_term (λ k. (leaf k).den) to)) i;
     })
+
+-- nothing lies before the first minute of all
+pub IsOver-none : (width : ℕ) (leaf : ℕ → Leaf) (length : ℕ) → 0 < width →
+    IsOver width leaf length 0 (record { first = 0; end = 0; sum = record { num = 0; den = 0 } })
+IsOver-none width leaf length some = record {
+  first = sym from;
+  end = sym until;
+  sum = (λ i. record {
+    num = sym (no_term (λ k. (leaf k).num) 0) i;
+    den = sym (no_term (λ k. (leaf k).den) 0) i;
+  }) ∙ (λ i. leaves_over leaf (sym from i) (sym until i - sym from i));
+  part = omega arith;
+  few = omega arith;
+}
+  where
+    none : 0 ≡ 0 * width + 0
+    none = omega arith
+
+    until : slices_until width 0 ≡ 0
+    until = ap (λ k. k / width) none ∙ div-mul-add 0 width 0 some
+
+    cut : (length : ℕ) → 0 - length + (width - 1) ≡ 0 * width + (width - 1)
+    cut length = omega arith
+
+    from : slice_from width (0 - length) ≡ 0
+    from = ap (λ k. k / width) (cut length) ∙ div-mul-add 0 width (width - 1) (omega (arith, some))

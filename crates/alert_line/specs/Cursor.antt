@@ -8,6 +8,7 @@ use Rattle.burn_core.specs.declared.alert.WindowPair.{WindowPair}
 use Rattle.burn_core.specs.Alert.{page_pairs, ticket_pairs}
 use Rattle.alert_line.specs.declared.window.Advance.{Advance}
 use Rattle.alert_line.specs.declared.window.Window.{Window}
+use Rattle.alert_line.specs.declared.late.LateWindow.{LateWindow}
 use Rattle.alert_line.specs.declared.cursor.PairWindows.{PairWindows}
 use Rattle.alert_line.specs.declared.cursor.Windows.{Windows}
 use Rattle.alert_line.specs.declared.cursor.Windows.TheVariants.{OfSingle, OfPage, OfTicket}
@@ -31,11 +32,17 @@ pub record IsAdvance (width : ℕ) (leaf : ℕ → Leaf) (advance : Advance) : T
   pub gained : slices_until width advance.minute < advance.end
       → advance.leaf ≡ leaf (slices_until width advance.minute)
 
--- two windows hold the sums of a pair
+-- a window that may be late holds that sum at a minute of its own, no later than the one looked at
+pub record IsLate (width : ℕ) (leaf : ℕ → Leaf) (length minute : ℕ) (late : LateWindow) :
+    Type 0 where
+  pub behind : late.minute ≤ minute
+  pub over : IsOver width leaf length late.minute late.window
+
+-- two windows hold the sums of a pair, the long one as it was
 pub record AreOver (width : ℕ) (leaf : ℕ → Leaf) (pair : WindowPair) (minute : ℕ)
     (windows : PairWindows) : Type 0 where
   pub same : windows.pair ≡ pair
-  pub long : IsOver width leaf pair.long minute windows.long
+  pub long : IsLate width leaf pair.long minute windows.long
   pub short : IsOver width leaf pair.short minute windows.short
 
 -- windows hold the sums of pairs, each of its own
@@ -49,6 +56,15 @@ abbrev pub rule_of : Windows → AlertRule
 rule_of (OfSingle op threshold lookback after window) = Single op threshold lookback after
 rule_of (OfPage fast slow) = Page
 rule_of (OfTicket pair) = Ticket
+
+-- by how many minutes the long windows are behind a minute, all together
+abbrev pub late_in : ℕ → Windows → ℕ
+late_in minute (OfSingle op threshold lookback after window) = 0
+late_in minute (OfPage fast slow) = (minute - fast.long.minute) + (minute - slow.long.minute)
+late_in minute (OfTicket pair) = minute - pair.long.minute
+
+abbrev pub lag_of : Cursor → ℕ
+lag_of cursor = late_in cursor.minute cursor.windows
 
 -- the windows hold the sums of their rule at a minute
 abbrev pub StandAt : ℕ → (ℕ → Leaf) → ℕ → Windows → Type 0

@@ -6,8 +6,10 @@ ghost use Rattle.exact_fraction.specs.declared.op.Op.TheVariants.{Gt};
 ghost use Rattle.burn_core.specs.Alert.{IsRule};
 ghost use Rattle.burn_core.specs.Condition.{burns_by, both_burn};
 ghost use Rattle.window_sums.specs.Slices.{leaf_at, width_of};
-ghost use Rattle.alert_line.specs.Cursor.{AreOver, IsAdvance, IsAt, StandAt, rule_of};
+ghost use Rattle.alert_line.specs.Cursor.{AreOver, IsAdvance, IsAt, StandAt, lag_of, late_in};
+ghost use Rattle.alert_line.specs.Cursor.{rule_of};
 
+use crate::late::LateWindow;
 use crate::window::{Advance, Window};
 use burn_core::{AlertRule, WindowPair, above, page_pairs, ticket_pairs};
 use exact_fraction::{Decimal, Op};
@@ -15,11 +17,12 @@ use std::sync::ledger::Ledger;
 use sum_pages::Steps;
 use window_sums::WindowSums;
 
-/// A pair and its two windows.
+/// A pair and its two windows. Where the short one doesn't burn nothing depends on the long one,
+/// which stays behind till then.
 #[derive(Clone, Copy)]
 pub(crate) struct PairWindows {
     pub(crate) pair: WindowPair,
-    pub(crate) long: Window,
+    pub(crate) long: LateWindow,
     pub(crate) short: Window,
 }
 
@@ -30,17 +33,17 @@ impl PairWindows {
         sums: &WindowSums,
         steps: &mut Steps<L>,
     ) -> PairWindows
-        requires long { pair.long ≤ MAX_LOOKBACK }
         requires short { pair.short ≤ MAX_LOOKBACK }
         ensures value { AreOver (width_of sums.now.method) (leaf_at sums.now) pair minute result }
-        ensures steps { steps.new ≤ steps.old + 1200 }
+        ensures steps { steps.new ≤ steps.old + 600 }
     {
-        let long = Window::new(pair.long, minute, sums, steps);
+        let long = LateWindow::new(sums);
         let short = Window::new(pair.short, minute, sums, steps);
         PairWindows { pair, long, short }
     }
 
-    /// Moves on to the next minute. Inlined, since a pair moves at each minute of a timeline.
+    /// Moves the short window on to the next minute. Inlined, since it moves at each minute of a
+    /// timeline.
     #[inline(always)]
     fn next<L: Ledger>(&mut self, advance: &Advance, sums: &WindowSums, steps: &mut Steps<L>)
         requires advance { IsAdvance (width_of sums.now.method) (leaf_at sums.now) advance.now }
@@ -48,24 +51,41 @@ impl PairWindows {
             advance.now.minute self.old }
         ensures value { AreOver (width_of sums.now.method) (leaf_at sums.now) self.old.pair
             (advance.now.minute + 1) self.new }
-        ensures steps { steps.new ≤ steps.old + 2 }
+        ensures late { self.new.long ≡ self.old.long }
+        ensures steps { steps.new ≤ steps.old + 1 }
     {
-        self.long.next(self.pair.long, advance, sums, steps);
         self.short.next(self.pair.short, advance, sums, steps);
     }
 
-    /// Both windows burn faster than the pair allows.
-    fn both_burn(&self, target: Decimal, minute: u32, sums: &WindowSums) -> bool
+    /// Both windows burn faster than the pair allows. The long one is asked for where the short one
+    /// does, and is brought to the minute then.
+    fn both_burn<L: Ledger>(
+        &mut self,
+        target: Decimal,
+        minute: u32,
+        sums: &WindowSums,
+        steps: &mut Steps<L>,
+    ) -> bool
         requires target { target < WHOLE }
-        requires few { self.now.pair.above ≤ MAX_THRESHOLD }
-        requires value { AreOver (width_of sums.now.method) (leaf_at sums.now) self.now.pair minute
-            self.now }
-        ensures { result ≡ both_burn (width_of sums.now.method) (leaf_at sums.now) target minute
-            self.now.pair }
+        requires few { self.old.pair.above ≤ MAX_THRESHOLD }
+        requires long { self.old.pair.long ≤ MAX_LOOKBACK }
+        requires value { AreOver (width_of sums.now.method) (leaf_at sums.now) self.old.pair minute
+            self.old }
+        ensures result { result ≡ both_burn (width_of sums.now.method) (leaf_at sums.now) target
+            minute self.old.pair }
+        ensures value { AreOver (width_of sums.now.method) (leaf_at sums.now) self.old.pair minute
+            self.new }
+        ensures steps { steps.new ≤ steps.old + 600 }
+        ensures paid { steps.new + 2 * (minute - self.new.long.minute)
+            ≤ steps.old + 2 * (minute - self.old.long.minute) }
     {
         let threshold = self.pair.above;
-        above(self.long.sum, target, Op::Gt, threshold)
-            && above(self.short.sum, target, Op::Gt, threshold)
+        let burns = above(self.short.sum, target, Op::Gt, threshold);
+        if !burns {
+            return false;
+        }
+        self.long.bring(self.pair.long, minute, sums, steps);
+        above(self.long.window.sum, target, Op::Gt, threshold)
     }
 }
 
@@ -98,7 +118,7 @@ impl Windows {
         requires { IsRule rule }
         ensures rule { rule_of result ≡ rule }
         ensures stand { StandAt (width_of sums.now.method) (leaf_at sums.now) minute result }
-        ensures steps { steps.new ≤ steps.old + 2400 }
+        ensures steps { steps.new ≤ steps.old + 1200 }
     {
         match rule {
             AlertRule::Single {
@@ -139,6 +159,8 @@ impl Windows {
         ensures stand { StandAt (width_of sums.now.method) (leaf_at sums.now)
             (advance.now.minute + 1) self.new }
         ensures steps { steps.new ≤ steps.old + 4 }
+        ensures paid { steps.new + 2 * late_in (advance.now.minute + 1) self.new
+            ≤ steps.old + 2 * late_in advance.now.minute self.old + 6 }
     {
         match self {
             Windows::OfSingle {
@@ -155,12 +177,23 @@ impl Windows {
     }
 
     /// What the rule says, by the sums of its windows.
-    fn burn(&self, target: Decimal, minute: u32, sums: &WindowSums) -> bool
-        requires rule { IsRule (rule_of self.now) }
+    fn burn<L: Ledger>(
+        &mut self,
+        target: Decimal,
+        minute: u32,
+        sums: &WindowSums,
+        steps: &mut Steps<L>,
+    ) -> bool
+        requires rule { IsRule (rule_of self.old) }
         requires target { target < WHOLE }
-        requires stand { StandAt (width_of sums.now.method) (leaf_at sums.now) minute self.now }
-        ensures { result ≡ burns_by (rule_of self.now) target (width_of sums.now.method)
+        requires stand { StandAt (width_of sums.now.method) (leaf_at sums.now) minute self.old }
+        ensures result { result ≡ burns_by (rule_of self.old) target (width_of sums.now.method)
             (leaf_at sums.now) minute }
+        ensures rule { rule_of self.new ≡ rule_of self.old }
+        ensures stand { StandAt (width_of sums.now.method) (leaf_at sums.now) minute self.new }
+        ensures steps { steps.new ≤ steps.old + 1200 }
+        ensures paid { steps.new + 2 * late_in minute self.new
+            ≤ steps.old + 2 * late_in minute self.old }
     {
         match self {
             Windows::OfSingle {
@@ -170,9 +203,10 @@ impl Windows {
                 ..
             } => above(window.sum, target, *op, *threshold),
             Windows::OfPage { fast, slow } => {
-                fast.both_burn(target, minute, sums) || slow.both_burn(target, minute, sums)
+                fast.both_burn(target, minute, sums, steps)
+                    || slow.both_burn(target, minute, sums, steps)
             }
-            Windows::OfTicket { pair } => pair.both_burn(target, minute, sums),
+            Windows::OfTicket { pair } => pair.both_burn(target, minute, sums, steps),
         }
     }
 }
@@ -185,7 +219,7 @@ pub(crate) struct Cursor {
 }
 
 impl Cursor {
-    /// All windows summed up from scratch.
+    /// Windows that are summed up from scratch, but for the long ones of pairs.
     pub(crate) fn new<L: Ledger>(
         rule: AlertRule,
         minute: u32,
@@ -194,14 +228,13 @@ impl Cursor {
     ) -> Cursor
         requires { IsRule rule }
         ensures value { IsAt rule (width_of sums.now.method) (leaf_at sums.now) minute result }
-        ensures steps { steps.new ≤ steps.old + 2400 }
+        ensures steps { steps.new ≤ steps.old + 1200 }
     {
         let windows = Windows::new(rule, minute, sums, steps);
         Cursor { minute, windows }
     }
 
-    /// All windows summed up from scratch, at another minute. Not inlined: moving on is the way
-    /// that is taken at most minutes.
+    /// The same at another minute. Not inlined: moving on is what is done at most minutes.
     #[inline(never)]
     pub(crate) fn renew<L: Ledger>(
         &mut self,
@@ -212,7 +245,7 @@ impl Cursor {
     )
         requires { IsRule rule }
         ensures value { IsAt rule (width_of sums.now.method) (leaf_at sums.now) minute self.new }
-        ensures steps { steps.new ≤ steps.old + 2400 }
+        ensures steps { steps.new ≤ steps.old + 1200 }
     {
         *self = Cursor::new(rule, minute, sums, steps);
     }
@@ -225,6 +258,7 @@ impl Cursor {
         ensures value { IsAt (rule_of self.old.windows) (width_of sums.now.method)
             (leaf_at sums.now) (self.old.minute + 1) self.new }
         ensures steps { steps.new ≤ steps.old + 8 }
+        ensures paid { steps.new + 2 * lag_of self.new ≤ steps.old + 2 * lag_of self.old + 8 }
     {
         let advance = Advance::new(self.minute, sums, steps);
         self.windows.next(&advance, sums, steps);
@@ -244,6 +278,8 @@ impl Cursor {
         ensures value { IsAt (rule_of self.old.windows) (width_of sums.now.method)
             (leaf_at sums.now) minute self.new }
         ensures steps { steps.new ≤ steps.old + 8 * (minute - self.old.minute) }
+        ensures paid { steps.new + 2 * lag_of self.new
+            ≤ steps.old + 2 * lag_of self.old + 8 * (minute - self.old.minute) }
     {
         for _at in self.minute..minute {
             self.next(sums, steps);
@@ -251,14 +287,23 @@ impl Cursor {
     }
 
     /// What the rule says at the cursor's minute.
-    pub(crate) fn burns(&self, target: Decimal, sums: &WindowSums) -> bool
-        requires rule { IsRule (rule_of self.now.windows) }
+    pub(crate) fn burns<L: Ledger>(
+        &mut self,
+        target: Decimal,
+        sums: &WindowSums,
+        steps: &mut Steps<L>,
+    ) -> bool
+        requires rule { IsRule (rule_of self.old.windows) }
         requires target { target < WHOLE }
-        requires stand { StandAt (width_of sums.now.method) (leaf_at sums.now) self.now.minute
-            self.now.windows }
-        ensures { result ≡ burns_by (rule_of self.now.windows) target (width_of sums.now.method)
-            (leaf_at sums.now) self.now.minute }
+        requires stand { StandAt (width_of sums.now.method) (leaf_at sums.now) self.old.minute
+            self.old.windows }
+        ensures result { result ≡ burns_by (rule_of self.old.windows) target
+            (width_of sums.now.method) (leaf_at sums.now) self.old.minute }
+        ensures value { IsAt (rule_of self.old.windows) (width_of sums.now.method)
+            (leaf_at sums.now) self.old.minute self.new }
+        ensures steps { steps.new ≤ steps.old + 1200 }
+        ensures paid { steps.new + 2 * lag_of self.new ≤ steps.old + 2 * lag_of self.old }
     {
-        self.windows.burn(target, self.minute, sums)
+        self.windows.burn(target, self.minute, sums, steps)
     }
 }

@@ -5,6 +5,7 @@
 
 mod bits;
 mod cursor;
+mod late;
 pub mod laws;
 mod line;
 mod minutes;

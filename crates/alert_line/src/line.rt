@@ -7,7 +7,7 @@ ghost use Rattle.slo_limits.specs.declared.TheConstants.{WHOLE};
 ghost use Rattle.burn_core.specs.Alert.{IsRule, wait_of};
 ghost use Rattle.burn_core.specs.Timeline.{AreSpansOf, is_active, state_of};
 ghost use Rattle.window_sums.specs.Slices.{CountedDays, leaf_at, width_of};
-ghost use Rattle.alert_line.specs.Cursor.{IsAt, IsBehind};
+ghost use Rattle.alert_line.specs.Cursor.{IsAt, IsBehind, lag_of};
 ghost use Rattle.alert_line.specs.Laws.{HasForgotten};
 ghost use Rattle.alert_line.specs.Learnt.{HasLearnt, IsLearnt, IsRun, start_of, unknown_in};
 ghost use Rattle.alert_line.specs.Line.{Agrees, IsMinute, SameAlert, active_on, condition_on};
@@ -182,8 +182,8 @@ impl AlertLine {
         if let Some(holds) = self.known_at(minute) {
             return holds;
         }
-        let cursor = Cursor::new(self.rule, minute, sums, steps);
-        let holds = self.burns(&cursor, sums);
+        let mut cursor = Cursor::new(self.rule, minute, sums, steps);
+        let holds = self.burns(&mut cursor, sums, steps);
         self.learn(minute, holds);
         holds
     }
@@ -454,7 +454,8 @@ impl AlertLine {
             return holds;
         }
         if let Some(found) = summed.of_rule(&self.rule) {
-            let holds = self.burns(found, sums);
+            let mut found = *found;
+            let holds = self.burns(&mut found, sums, steps);
             self.learn(minute, holds);
             return holds;
         }
@@ -465,7 +466,7 @@ impl AlertLine {
 
     /// The condition of a minute that isn't known. Not inlined, which doubles the speed over known
     /// minutes. The cursor moves on by two reads for each window and minute, if it is near enough,
-    /// and stands at this minute afterwards.
+    /// and stands at this minute afterwards; a long window's reads come when it is asked for.
     #[inline(never)]
     fn discover<L: Ledger>(
         &mut self,
@@ -483,9 +484,9 @@ impl AlertLine {
             (IsAt self.old.rule (width_of sums.now.method) (leaf_at sums.now) minute) }
         ensures stays { IsTrue (is_some cursor.new) }
         ensures steps { steps.new ≤ steps.old + 2400 }
-        ensures moved { IfSome cursor.old
-            (λ last. minute - last.minute ≤ MOST_MOVES
-            → steps.new ≤ steps.old + 8 * (minute - last.minute)) }
+        ensures moved { IfSome cursor.old (λ last. minute - last.minute ≤ MOST_MOVES
+            → IfSome cursor.new (λ next. steps.new + 2 * lag_of next
+            ≤ steps.old + 2 * lag_of last + 8 * (minute - last.minute))) }
     {
         let holds = self.holds_at(minute, cursor, sums, steps);
         self.learn(minute, holds);
@@ -509,14 +510,14 @@ impl AlertLine {
             (IsAt self.now.rule (width_of sums.now.method) (leaf_at sums.now) minute) }
         ensures stays { IsTrue (is_some cursor.new) }
         ensures steps { steps.new ≤ steps.old + 2400 }
-        ensures moved { IfSome cursor.old
-            (λ last. minute - last.minute ≤ MOST_MOVES
-            → steps.new ≤ steps.old + 8 * (minute - last.minute)) }
+        ensures moved { IfSome cursor.old (λ last. minute - last.minute ≤ MOST_MOVES
+            → IfSome cursor.new (λ next. steps.new + 2 * lag_of next
+            ≤ steps.old + 2 * lag_of last + 8 * (minute - last.minute))) }
     {
         match cursor {
             Some(last) => {
                 self.bring(minute, last, sums, steps);
-                self.burns(last, sums)
+                self.burns(last, sums, steps)
             }
             None => self.begin(minute, cursor, sums, steps),
         }
@@ -539,8 +540,8 @@ impl AlertLine {
         ensures stays { IsTrue (is_some cursor.new) }
         ensures steps { steps.new ≤ steps.old + 2400 }
     {
-        let first = Cursor::new(self.rule, minute, sums, steps);
-        let holds = self.burns(&first, sums);
+        let mut first = Cursor::new(self.rule, minute, sums, steps);
+        let holds = self.burns(&mut first, sums, steps);
         *cursor = Some(first);
         holds
     }
@@ -557,9 +558,10 @@ impl AlertLine {
             minute cursor.old }
         ensures value { IsAt self.now.rule (width_of sums.now.method) (leaf_at sums.now) minute
             cursor.new }
-        ensures steps { steps.new ≤ steps.old + 2400 }
+        ensures steps { steps.new ≤ steps.old + 1200 }
         ensures moved { minute - cursor.old.minute ≤ MOST_MOVES
-            → steps.new ≤ steps.old + 8 * (minute - cursor.old.minute) }
+            → steps.new + 2 * lag_of cursor.new
+            ≤ steps.old + 2 * lag_of cursor.old + 8 * (minute - cursor.old.minute) }
     {
         if minute - cursor.minute <= MOST_MOVES {
             cursor.move_to(minute, sums, steps);
@@ -569,13 +571,17 @@ impl AlertLine {
     }
 
     /// What the rule says at the minute of a cursor.
-    fn burns(&self, cursor: &Cursor, sums: &WindowSums) -> bool
-        requires minute { IsMinute self.now cursor.now.minute }
+    fn burns<L: Ledger>(&self, cursor: &mut Cursor, sums: &WindowSums, steps: &mut Steps<L>) -> bool
+        requires minute { IsMinute self.now cursor.old.minute }
         requires stands { IsAt self.now.rule (width_of sums.now.method) (leaf_at sums.now)
-            cursor.now.minute cursor.now }
-        ensures { result ≡ condition_on self.now sums.now cursor.now.minute }
+            cursor.old.minute cursor.old }
+        ensures value { result ≡ condition_on self.now sums.now cursor.old.minute }
+        ensures stands { IsAt self.now.rule (width_of sums.now.method) (leaf_at sums.now)
+            cursor.old.minute cursor.new }
+        ensures steps { steps.new ≤ steps.old + 1200 }
+        ensures paid { steps.new + 2 * lag_of cursor.new ≤ steps.old + 2 * lag_of cursor.old }
     {
-        cursor.burns(self.target, sums)
+        cursor.burns(self.target, sums, steps)
     }
 
     /// Remembers the condition of a minute.
