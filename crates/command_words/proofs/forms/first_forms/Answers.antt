@@ -1,47 +1,19 @@
-use Rattle.std.proofs.Common.{ap, ap₂, true, ◌≡◌, ◌∙◌}
+use Rattle.std.proofs.Common.{ap, ◌∙◌}
 use Rattle.std.proofs.lemmas.Result.{IfOk-weaker}
-use Rattle.clap.specs.Simple.{App, Shape, app_of, on_top, with_subcommand}
-use Rattle.command_words.specs.Forms.{bare_form}
+use Rattle.clap.specs.Simple.{App, with_subcommand}
+use Rattle.command_words.specs.Forms.{budget_form, check_form, init_form, pipe_form}
+use Rattle.command_words.specs.Forms.{report_form}
 use Rattle.command_words.proofs.forms.first_forms.Goals as goal
 
--- a command and a form that are one, with a subcommand that is its form
-abbrev top : App → Shape
-top form = form.top
+-- a program with a command more
+abbrev with_form : App → App → App
+with_form form program = with_subcommand program form.top
 
 pub returns : goal.returns
 returns c =
-    let settings : App → App =
-    on_top
-    (λ (s : Shape). record s {
-      no_binary_name = true;
-      disable_help_flag = true;
-      disable_help_subcommand = true;
-      disable_version_flag = true;
-      subcommand_required = true;
-    }) in
-    let program : app_of c.subcommand_required-program.result ≡ bare_form =
-    rw (
-      c.subcommand_required-program.ensures,
-      c.disable_version_flag.ensures,
-      c.disable_help_subcommand.ensures,
-      c.disable_help_flag.ensures,
-      c.no_binary_name.ensures,
-    )
-    (ap settings c.new.ensures.app) in
-    let budget =
-    c.in_ok-subcommand.ensures.shape c.in_ok-budget.ensures.local
-    ∙ ap₂ with_subcommand program (ap top c.in_ok-budget.ensures.form) in
-    let check =
-    c.in_ok-subcommand-2.ensures.shape c.new-check.ensures.local
-    ∙ ap₂ with_subcommand budget (ap top c.new-check.ensures.app) in
-    let init =
-    c.in_ok-subcommand-3.ensures.shape c.in_ok-init.ensures.local
-    ∙ ap₂ with_subcommand check (ap top c.in_ok-init.ensures.form) in
-    let pipe =
-    c.in_ok-subcommand-4.ensures.shape c.new-pipe.ensures.local
-    ∙ ap₂ with_subcommand init (ap top c.new-pipe.ensures.app) in
-    IfOk-weaker c.subcommand-5.result _ _
-    (λ r h.
-    h.shape c.in_ok-report.ensures.local
-    ∙ ap₂ with_subcommand pipe (ap top c.in_ok-report.ensures.form))
-    c.subcommand-5.ensures
+    let budget = c.in_ok-program.ensures ∙ ap (with_form budget_form) c.bare-program.ensures in
+    let check = c.in_ok-program-2.ensures ∙ ap (with_form check_form) budget in
+    let init = c.in_ok-program-3.ensures ∙ ap (with_form init_form) check in
+    let pipe = c.in_ok-program-4.ensures ∙ ap (with_form pipe_form) init in
+    IfOk-weaker c.with_one_word-2.result _ _
+    (λ r report. report ∙ ap (with_form report_form) pipe) c.with_one_word-2.ensures

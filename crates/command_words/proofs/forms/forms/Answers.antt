@@ -1,31 +1,21 @@
-use Rattle.std.proofs.Common.{ap, ap₂, ◌≡◌, ◌∙◌}
+use Rattle.std.proofs.Common.{ap, ◌∙◌}
 use Rattle.std.proofs.lemmas.Result.{IfOk-weaker}
-use Rattle.clap.specs.Simple.{App, Shape, with_subcommand}
+use Rattle.clap.specs.Simple.{App, with_subcommand}
+use Rattle.command_words.specs.Forms.{counters_form, export_form, follow_form, generate_form}
+use Rattle.command_words.specs.Forms.{migrate_form, serve_form}
 use Rattle.command_words.proofs.forms.forms.Goals as goal
 
--- a command and a form that are one, with a subcommand that is its form
-abbrev top : App → Shape
-top form = form.top
+-- a program with a command more
+abbrev with_form : App → App → App
+with_form form program = with_subcommand program form.top
 
 pub returns : goal.returns
 returns c =
     let serve =
-    c.in_ok-subcommand.ensures.shape c.in_ok-serve.ensures.local
-    ∙ ap₂ with_subcommand c.in_ok-first_forms.ensures (ap top c.in_ok-serve.ensures.form) in
-    let generate =
-    c.in_ok-subcommand-2.ensures.shape c.in_ok-generate.ensures.local
-    ∙ ap₂ with_subcommand serve (ap top c.in_ok-generate.ensures.form) in
-    let counters =
-    c.in_ok-subcommand-3.ensures.shape c.in_ok-counters.ensures.local
-    ∙ ap₂ with_subcommand generate (ap top c.in_ok-counters.ensures.form) in
-    let migrate =
-    c.in_ok-subcommand-4.ensures.shape c.new-migrate.ensures.local
-    ∙ ap₂ with_subcommand counters (ap top c.new-migrate.ensures.app) in
-    let export =
-    c.in_ok-subcommand-5.ensures.shape c.in_ok-export.ensures.local
-    ∙ ap₂ with_subcommand migrate (ap top c.in_ok-export.ensures.form) in
-    IfOk-weaker c.subcommand-6.result _ _
-    (λ r h.
-    h.shape c.new-follow.ensures.local
-    ∙ ap₂ with_subcommand export (ap top c.new-follow.ensures.app))
-    c.subcommand-6.ensures
+    c.in_ok-program-2.ensures ∙ ap (with_form serve_form) c.in_ok-program.ensures in
+    let generate = c.in_ok-program-3.ensures ∙ ap (with_form generate_form) serve in
+    let counters = c.in_ok-program-4.ensures ∙ ap (with_form counters_form) generate in
+    let migrate = c.in_ok-program-5.ensures ∙ ap (with_form migrate_form) counters in
+    let export = c.in_ok-program-6.ensures ∙ ap (with_form export_form) migrate in
+    IfOk-weaker c.with_name-2.result _ _
+    (λ r follow. follow ∙ ap (with_form follow_form) export) c.with_name-2.ensures
