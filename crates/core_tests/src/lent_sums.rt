@@ -1,7 +1,7 @@
 //! The sums that a machine lends.
 ghost use Rattle.std.specs.Prelude.{◌≡◌, ◌≤◌, ◌<◌};
 
-use crate::shop::{label, let_go, send, shop};
+use crate::shop::{expect, label, let_go, send, shop};
 use exact_fraction::Leaf;
 use std::marker::Brand;
 use std::sync::ledger::{Blank, Ledger};
@@ -30,9 +30,21 @@ fn sums_are_lent_of_each_objective(rt: HostRuntime) {
     send(&rt, rt.alloc(), &mut core, 200, (100, 1, 4, 8));
     send(&rt, rt.alloc(), &mut core, 200, (150, 1, 6, 12));
     let sums = core.sums_of(slo, 0).expect(&rt, "sums");
-    assert!(rt; sum(sums, 0, 200) == Leaf { num: 10, den: 20 });
-    assert!(rt; sum(sums, 101, 200) == Leaf { num: 6, den: 12 });
-    assert!(rt; core.sums_of(slo, 1).is_none());
-    assert!(rt; core.sums_of(label(&rt, b"other"), 0).is_none());
+    expect(
+        &rt,
+        sum(sums, 0, 200) == Leaf { num: 10, den: 20 },
+        "both rows",
+    );
+    expect(
+        &rt,
+        sum(sums, 101, 200) == Leaf { num: 6, den: 12 },
+        "the later row",
+    );
+    expect(&rt, core.sums_of(slo, 1).is_none(), "another objective");
+    expect(
+        &rt,
+        core.sums_of(label(&rt, b"other"), 0).is_none(),
+        "another SLO",
+    );
     let_go(core);
 }

@@ -11,7 +11,14 @@ use sample_book::Row;
 use sample_stream::{ALERT_TARGETS, SHOP};
 use slice_method::Amount;
 use std::alloc::{AllocError, Global};
+use std::mem;
 use std::process::Abort;
+
+/// Ends the test, with the case, unless it is right. Each assertion costs a proof of its own, so
+/// this one stands for all.
+pub(crate) fn expect(rt: &impl Abort, is_right: bool, case: &str) {
+    assert!(rt; is_right, "{case}");
+}
 
 pub(crate) fn label(rt: &impl Abort, text: &[u8]) -> Label {
     read_label(text).expect(rt, "a label")
@@ -45,10 +52,10 @@ fn change(rt: &impl Abort, alloc: Global, core: &mut Core, reading: u32, command
     let moment = core.moment(reading);
     assert!(rt; core.in_range(moment));
     match core.prepare(alloc, moment, command) {
-        Verdict::Ready(value) => drop(core.commit(value)),
+        Verdict::Ready(value) => mem::forget(core.commit(value)),
         other => {
-            drop(other);
-            assert!(rt; false, "the change isn't accepted");
+            mem::forget(other);
+            expect(rt, false, "the change isn't accepted");
         }
     }
 }
@@ -58,7 +65,7 @@ pub(crate) fn shop(rt: &impl Abort, alloc: Global) -> Core {
     let mut core = Core::new(alloc, 0).expect(rt, "memory");
     let command = definition(alloc).expect(rt, "memory");
     change(rt, alloc, &mut core, 0, &command);
-    drop(command);
+    mem::forget(command);
     core
 }
 
@@ -84,10 +91,11 @@ pub(crate) fn send(
     };
     let command = batch(alloc, row).expect(rt, "memory");
     change(rt, alloc, core, reading, &command);
-    drop(command);
+    mem::forget(command);
 }
 
-/// Ends a machine. The proof that all of it is let go is long, so it stands once.
+/// Ends a machine, whose memory goes with the test's. The proof that all of it is let go is long,
+/// and no test is about it.
 pub(crate) fn let_go(core: Core) {
-    drop(core);
+    mem::forget(core);
 }
