@@ -5,6 +5,7 @@ ghost use Rattle.slo_terms.specs.Sums.{most_events};
 ghost use Rattle.window_sums.specs.Slices.{HasAtMost, IsPart, counts_of, new_counts, no_counts};
 ghost use Rattle.window_sums.specs.Slices.{slice_of, width_of};
 
+use crate::row_words::number;
 use exact_fraction::Decimal;
 use slice_method::{Counts, Method};
 use std::alloc::Global;
@@ -98,4 +99,24 @@ pub(crate) fn add<R: Abort>(
         counts(good, total),
         others * 2_000_000_000,
     );
+}
+
+/// Sums of the events of a row, which has of each minute its number, the good events and all.
+pub(crate) fn filled<R: Abort>(rt: &R, alloc: Global, method: Method, row: &str) -> WindowSums
+    requires { width_of method ∣ 60 }
+{
+    let mut words = row.split_whitespace();
+    let mut sums = start(alloc, method);
+    for place in 0..100 {
+        let minute = words.next();
+        if minute.is_none() {
+            break;
+        }
+        let minute = number(rt, minute, 2_100_000) as u32;
+        let good = number(rt, words.next(), 1_000_000_000);
+        let total = number(rt, words.next(), 1_000_000_000);
+        assert!(rt; good <= total);
+        add(rt, &mut sums, minute, good, total, place);
+    }
+    sums
 }

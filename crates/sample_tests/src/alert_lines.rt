@@ -1,16 +1,19 @@
 //! Whole questions to a line, against answers of a plain evaluation outside of this code: sums of
 //! leaves, fractions and sets of minutes.
 ghost use Rattle.std.specs.Prelude.{◌≡◌, ◌+◌, ◌<◌, ◌≤◌};
+ghost use Rattle.std.specs.Int.{◌∣◌};
 ghost use Rattle.burn_core.specs.Alert.{IsRule};
-ghost use Rattle.window_sums.specs.Slices.{CountedDays, HasAtMost, counts_of};
+ghost use Rattle.window_sums.specs.Slices.{CountedDays, width_of};
 ghost use Rattle.alert_line.specs.Line.{Agrees, IsMinute, SameAlert};
 
-use crate::added_events::{add, method_of, start};
+use crate::added_events::{filled, method_of};
 use crate::expectations::{expect, expect_text};
+use crate::row_words::number;
 use alert_line::{AlertLine, Spans};
 use burn_core::{AlertRule, State};
-use exact_fraction::{Decimal, Op, read_decimal, read_number};
-use std::alloc::{AllocError, Global};
+use exact_fraction::{Decimal, Op, read_decimal};
+use slice_method::Method;
+use std::alloc::Global;
 use std::marker::Brand;
 use std::process::Abort;
 use std::str::SplitWhitespace;
@@ -131,13 +134,6 @@ gt 1 150 30 0.9 0 2097020 2097152 2097151 => false no_data 2097031..2097151
 gt 1 152 30 0.9 0 2097020 2097152 2097151 => true breaching 2097031..2097152"
 }
 
-fn number<R: Abort>(rt: &R, word: Option<&str>, most: u64) -> u64
-    ensures { result ≤ most }
-{
-    let digits = word.expect(rt, "a number");
-    read_number(digits.as_bytes(), most).expect(rt, digits)
-}
-
 fn decimal<R: Abort>(rt: &R, word: Option<&str>, most: u64) -> Decimal
     ensures { result ≤ most }
 {
@@ -147,33 +143,21 @@ fn decimal<R: Abort>(rt: &R, word: Option<&str>, most: u64) -> Decimal
     decimal
 }
 
-/// Sums without events, over slices of one minute, of five or of an hour.
-fn empty(alloc: Global, width: u64) -> WindowSums
-    ensures { HasAtMost result.method (counts_of result) 0 }
+/// All events, or the ratios of slices of five minutes, or slices of an hour.
+fn method_by(width: &str) -> Method
+    ensures { width_of result ∣ 60 }
 {
     match width {
-        60 => start(alloc, method_of(60, Some(990_000_000))),
-        5 => start(alloc, method_of(5, None)),
-        _ => start(alloc, method_of(0, None)),
+        "60" => method_of(60, Some(990_000_000)),
+        "5" => method_of(5, None),
+        _ => method_of(0, None),
     }
 }
 
 /// The sums of a block.
 fn sums_of<R: Abort>(rt: &R, alloc: Global, line: &str) -> WindowSums {
-    let mut words = line.split_whitespace();
-    let mut sums = empty(alloc, number(rt, words.next(), 60));
-    for place in 0..100 {
-        let minute = words.next();
-        if minute.is_none() {
-            break;
-        }
-        let minute = number(rt, minute, 2_100_000) as u32;
-        let good = number(rt, words.next(), 1_000_000_000);
-        let total = number(rt, words.next(), 1_000_000_000);
-        assert!(rt; good <= total);
-        add(rt, &mut sums, minute, good, total, place);
-    }
-    sums
+    let (width, events) = line.split_once(" ").unwrap_or((line, ""));
+    filled(rt, alloc, method_by(width), events)
 }
 
 fn op_of(name: &str) -> Op {
@@ -215,22 +199,24 @@ fn line_of<R: Abort>(rt: &R, alloc: Global, words: &mut SplitWhitespace<'_>) -> 
     (line, origin)
 }
 
-fn shown(alloc: Global, holds: bool, state: State, spans: &Spans) -> Result<String, AllocError> {
-    let mut text = format!(in alloc; "{holds} {}", state.word())?;
+fn shown(rt: &(impl AllocGlobal + Abort), holds: bool, state: State, spans: &Spans) -> String {
+    let word = state.word();
+    let mut text = format!(in rt.alloc(); "{holds} {word}").expect(rt, "memory");
     for (from, to) in spans {
-        text.push_str(&format!(in alloc; " {from}..{to}")?)?;
+        let span = format!(in rt.alloc(); " {from}..{to}").expect(rt, "memory");
+        text.push_str(&span).expect(rt, "memory");
     }
-    Ok(text)
+    text
 }
 
-fn answer_by<L: Ledger>(
-    alloc: Global,
+fn answer_by<L: Ledger, R: AllocGlobal + Abort>(
+    rt: &R,
     line: &mut AlertLine,
     range: (u32, u32),
     at: u32,
     sums: &WindowSums,
     blank: Blank,
-) -> Result<String, AllocError>
+) -> String
     requires order { range.0 ≤ range.1 }
     requires begin { line.old.origin ≤ range.0 }
     requires end { range.1 ≤ line.old.origin + 2097152 }
@@ -243,18 +229,21 @@ fn answer_by<L: Ledger>(
     let mut steps = Steps::<L>::new(blank);
     let holds = line.condition_at(at, sums, &mut steps);
     let state = line.state_at(at, sums, &mut steps);
-    let spans = line.intervals(range.0, range.1, sums, &mut steps)?;
-    shown(alloc, holds, state, &spans)
+    let spans = line
+        .intervals(range.0, range.1, sums, &mut steps)
+        .expect(rt, "memory");
+    shown(rt, holds, state, &spans)
 }
 
-/// The answer for a caller that counts no steps.
-fn answer(
-    alloc: Global,
+/// The line gives the answer of a row, for a caller that counts no steps.
+fn expect_answer<R: AllocGlobal + Abort>(
+    rt: &R,
     line: &mut AlertLine,
     range: (u32, u32),
     at: u32,
     sums: &WindowSums,
-) -> Result<String, AllocError>
+    row: (&str, &str),
+)
     requires order { range.0 ≤ range.1 }
     requires begin { line.old.origin ≤ range.0 }
     requires end { range.1 ≤ line.old.origin + 2097152 }
@@ -263,25 +252,23 @@ fn answer(
     ensures alert { SameAlert line.old line.new }
     ensures agrees { Agrees line.new sums.now }
 {
-    answer_by::<Brand>(alloc, line, range, at, sums, Blank::new(1))
+    let told = answer_by::<Brand, R>(rt, line, range, at, sums, Blank::new(1));
+    expect_text(rt, row.0, &told, row.1);
 }
 
 /// Asks a new line, again when all is known, and again when a part was forgotten. Gives the line.
-fn ask<R: Abort>(rt: &R, alloc: Global, row: &str, sums: &WindowSums) -> AlertLine {
+fn ask<R: AllocGlobal + Abort>(rt: &R, row: &str, sums: &WindowSums) -> AlertLine {
     let (question, want) = row.split_once(" => ").expect(rt, "an answer");
     let mut words = question.split_whitespace();
-    let (mut line, origin) = line_of(rt, alloc, &mut words);
+    let (mut line, origin) = line_of(rt, rt.alloc(), &mut words);
     let from = number(rt, words.next(), 2_097_152) as u32;
     let to = number(rt, words.next(), 2_097_152) as u32;
     let at = number(rt, words.next(), 2_097_151) as u32;
     assert!(rt; origin <= from && from <= to && origin <= at);
-    let first = answer(alloc, &mut line, (from, to), at, sums).expect(rt, "memory");
-    expect_text(rt, question, &first, want);
-    let again = answer(alloc, &mut line, (from, to), at, sums).expect(rt, "memory");
-    expect_text(rt, question, &again, want);
+    expect_answer(rt, &mut line, (from, to), at, sums, (question, want));
+    expect_answer(rt, &mut line, (from, to), at, sums, (question, want));
     line.mark(at, to);
-    let forgotten = answer(alloc, &mut line, (from, to), at, sums).expect(rt, "memory");
-    expect_text(rt, question, &forgotten, want);
+    expect_answer(rt, &mut line, (from, to), at, sums, (question, want));
     line
 }
 
@@ -291,7 +278,7 @@ fn lines_answer_as_a_plain_evaluation_does(rt: HostRuntime) {
         let (samples, rows) = block.split_once('\n').expect(&rt, "questions");
         let sums = sums_of(&rt, rt.alloc(), samples);
         for row in rows.lines() {
-            ask(&rt, rt.alloc(), row, &sums);
+            ask(&rt, row, &sums);
         }
     }
 }
@@ -300,7 +287,7 @@ fn lines_answer_as_a_plain_evaluation_does(rt: HostRuntime) {
 fn marks_forget_their_minutes_alone(rt: HostRuntime) {
     let sums = sums_of(&rt, rt.alloc(), "1  1000 0 1000");
     let row = "gt 2 60 5 0.999 0 900 1200 1006 => true breaching 1006..1061";
-    let mut line = ask(&rt, rt.alloc(), row, &sums);
+    let mut line = ask(&rt, row, &sums);
     line.mark(1_061, 1_061);
     for minute in 0..2_000 {
         let is_known = line.known_at(minute).is_some();

@@ -7,7 +7,7 @@ use sample_book::{Exclusion, Row, RowVerdict, SampleBook};
 use slice_method::Amount;
 use std::alloc::{AllocError, Global};
 use std::process::Abort;
-use std::slice;
+use std::{mem, slice};
 
 pub(crate) fn label(rt: &impl Abort, text: &[u8]) -> Label {
     read_label(text).expect(rt, "a label")
@@ -19,8 +19,11 @@ pub(crate) fn empty_book(rt: &impl Abort, alloc: Global) -> SampleBook
     SampleBook::new(alloc).expect(rt, "memory")
 }
 
-/// Ends a book. The proof that all of it is let go is long, so it stands once, for all tests.
-pub(crate) fn let_go(_book: SampleBook) {}
+/// Ends a book, whose memory goes with the test's. The proof that all of it is let go is long, and
+/// no test is about it.
+pub(crate) fn let_go(book: SampleBook) {
+    mem::forget(book);
+}
 
 fn row(web: Label, revision: u32, part: u32) -> Row {
     Row {

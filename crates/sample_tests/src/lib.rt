@@ -24,4 +24,6 @@ mod notices;
 #[cfg(test)]
 mod readings;
 #[cfg(test)]
+mod row_words;
+#[cfg(test)]
 mod sums_of_windows;

@@ -1,13 +1,10 @@
 //! Sums over ranges of time, by every method and width, against sums that were worked out.
 ghost use Rattle.std.specs.Prelude.{◌≡◌, ◌<◌, ◌≤◌};
-ghost use Rattle.std.specs.Int.{◌∣◌};
-ghost use Rattle.window_sums.specs.Slices.{width_of};
 
-use crate::added_events::{NOTHING, add, counts, method_of, put, start};
+use crate::added_events::{NOTHING, add, counts, filled, method_of, put, start};
 use crate::expectations::expect;
-use exact_fraction::Leaf;
-use slice_method::Method;
-use std::alloc::Global;
+use crate::row_words::number;
+use exact_fraction::{Leaf, read_number};
 use std::marker::Brand;
 use std::process::Abort;
 use std::sync::ledger::{Blank, Ledger};
@@ -28,109 +25,59 @@ fn sum(sums: &WindowSums, from: u32, to: u32) -> Leaf {
 }
 
 /// Events of ten minutes, on four days.
-fn filled<R: Abort>(rt: &R, alloc: Global, method: Method) -> WindowSums
-    requires { width_of method ∣ 60 }
-{
-    let mut sums = start(alloc, method);
-    add(rt, &mut sums, 0, 3, 4, 0);
-    add(rt, &mut sums, 4, 1, 1, 1);
-    add(rt, &mut sums, 5, 0, 2, 2);
-    add(rt, &mut sums, 59, 9, 10, 3);
-    add(rt, &mut sums, 60, 1, 3, 4);
-    add(rt, &mut sums, 61, 2, 3, 5);
-    add(rt, &mut sums, 1_439, 7, 7, 6);
-    add(rt, &mut sums, 1_440, 1, 2, 7);
-    add(rt, &mut sums, 2_879, 0, 1, 8);
-    add(rt, &mut sums, 100_000, 1, 1, 9);
-    sums
+const EVENTS: &str = "\
+0 3 4  4 1 1  5 0 2  59 9 10  60 1 3  61 2 3  1439 7 7  1440 1 2  2879 0 1  100000 1 1";
+
+/// One sum has to be this: a range has its first minute, the minute behind it, the good part and
+/// the whole.
+fn expect_sum<R: Abort>(rt: &R, sums: &WindowSums, range: &str) {
+    let mut words = range.split_whitespace();
+    let from = number(rt, words.next(), 2_100_000) as u32;
+    let to = number(rt, words.next(), 2_100_000) as u32;
+    let num = number(rt, words.next(), 10_000_000_000);
+    let den = number(rt, words.next(), 10_000_000_000);
+    expect(rt, sum(sums, from, to) == Leaf { num, den }, range);
 }
 
-/// The sums over these ranges have to be these, each the good part and the whole.
-fn compare<R: Abort>(rt: &R, sums: &WindowSums, ranges: &[(u32, u32)], wants: &[(u64, u64)]) {
-    assert!(rt; ranges.len() == wants.len());
-    for ((from, to), (num, den)) in ranges.iter().zip(wants) {
-        let want = Leaf {
-            num: *num,
-            den: *den,
-        };
-        expect(rt, sum(sums, *from, *to) == want, "the sum of a range");
+fn expect_sums<R: Abort>(rt: &R, sums: &WindowSums, ranges: &str) {
+    for range in ranges.split("; ") {
+        expect_sum(rt, sums, range);
+    }
+}
+
+/// A row has a method, by its width and its target in billionths, where it has one, and what sums
+/// over the ten minutes have to be.
+fn expect_rows(rt: &(impl AllocGlobal + Abort), rows: &str) {
+    for row in rows.lines() {
+        let (method, ranges) = row.split_once(": ").expect(rt, "ranges");
+        let (width, target) = method.split_once(" ").expect(rt, "a target");
+        let width = number(rt, Some(width), 60) as u32;
+        let target = read_number(target.as_bytes(), 1_000_000_000);
+        let sums = filled(rt, rt.alloc(), method_of(width, target), EVENTS);
+        expect_sums(rt, &sums, ranges);
     }
 }
 
 #[test]
 fn sums_of_every_method(rt: HostRuntime) {
-    let ranges = [
-        (0, 1),
-        (1, 61),
-        (0, 1_440),
-        (59, 2_880),
-        (61, 2_881),
-        (0, 100_001),
-    ];
-    let cases = [
-        (
-            0,
-            None,
-            [(3, 4), (11, 16), (23, 30), (20, 26), (10, 13), (25, 34)],
-        ),
-        (
-            1,
-            Some(500_000_000),
-            [(1, 1), (2, 4), (5, 7), (4, 6), (3, 4), (7, 10)],
-        ),
-        (
-            5,
-            Some(500_000_000),
-            [(0, 0), (1, 2), (4, 5), (3, 4), (2, 3), (5, 7)],
-        ),
-        (
-            60,
-            Some(900_000_000),
-            [(0, 0), (0, 0), (1, 3), (1, 4), (1, 3), (1, 5)],
-        ),
-    ];
-    for (width, target, wants) in cases {
-        let sums = filled(&rt, rt.alloc(), method_of(width, target));
-        compare(&rt, &sums, &ranges, &wants);
-    }
+    let rows = "\
+0 none: 0 1 3 4; 1 61 11 16; 0 1440 23 30; 59 2880 20 26; 61 2881 10 13; 0 100001 25 34
+1 500000000: 0 1 1 1; 1 61 2 4; 0 1440 5 7; 59 2880 4 6; 61 2881 3 4; 0 100001 7 10
+5 500000000: 0 1 0 0; 1 61 1 2; 0 1440 4 5; 59 2880 3 4; 61 2881 2 3; 0 100001 5 7
+60 900000000: 0 1 0 0; 1 61 0 0; 0 1440 1 3; 59 2880 1 4; 61 2881 1 3; 0 100001 1 5";
+    expect_rows(&rt, rows);
 }
 
 #[test]
 fn ratios_of_every_width(rt: HostRuntime) {
-    let ranges = [(1, 61), (0, 1_440), (59, 2_880), (0, 100_001)];
-    let cases = [
-        (
-            1,
-            [
-                (2_233_333_333, 4_000_000_000),
-                (4_649_999_999, 7_000_000_000),
-                (3_399_999_999, 6_000_000_000),
-                (6_149_999_999, 10_000_000_000),
-            ],
-        ),
-        (
-            5,
-            [
-                (900_000_000, 2_000_000_000),
-                (3_200_000_000, 5_000_000_000),
-                (2_000_000_000, 4_000_000_000),
-                (3_700_000_000, 7_000_000_000),
-            ],
-        ),
-        (
-            60,
-            [
-                (0, 0),
-                (2_264_705_882, 3_000_000_000),
-                (2_000_000_000, 4_000_000_000),
-                (2_764_705_882, 5_000_000_000),
-            ],
-        ),
-    ];
-    for (width, wants) in cases {
-        let sums = filled(&rt, rt.alloc(), method_of(width, None));
-        compare(&rt, &sums, &ranges, &wants);
-    }
+    let rows = "\
+1 none: 1 61 2233333333 4000000000; 0 1440 4649999999 7000000000; \
+59 2880 3399999999 6000000000; 0 100001 6149999999 10000000000
+5 none: 1 61 900000000 2000000000; 0 1440 3200000000 5000000000; \
+59 2880 2000000000 4000000000; 0 100001 3700000000 7000000000
+60 none: 1 61 0 0; 0 1440 2264705882 3000000000; \
+59 2880 2000000000 4000000000; 0 100001 2764705882 5000000000";
+    expect_rows(&rt, rows);
 }
 
 #[test]
@@ -151,7 +98,7 @@ fn four_hundred_days(rt: HostRuntime) {
 fn slices_of_five_minutes(rt: HostRuntime) {
     let mut sums = start(rt.alloc(), method_of(5, Some(500_000_000)));
     put(&rt, &mut sums, 101, NOTHING, counts(0, 2), 0);
-    compare(&rt, &sums, &[(0, 105)], &[(0, 1)]);
+    expect_sum(&rt, &sums, "0 105 0 1");
     put(
         &rt,
         &mut sums,
@@ -160,15 +107,11 @@ fn slices_of_five_minutes(rt: HostRuntime) {
         counts(1, 2),
         1_000_000_002,
     );
-    compare(&rt, &sums, &[(0, 103)], &[(0, 0)]);
-    compare(&rt, &sums, &[(0, 105)], &[(1, 1)]);
-    compare(&rt, &sums, &[(101, 110)], &[(0, 0)]);
+    expect_sums(&rt, &sums, "0 103 0 0; 0 105 1 1; 101 110 0 0");
 }
 
 #[test]
 fn ratios_are_rounded_slice_by_slice(rt: HostRuntime) {
-    let mut sums = start(rt.alloc(), Method::RatioTimeslices { width: 1 });
-    put(&rt, &mut sums, 7, NOTHING, counts(1, 3), 0);
-    put(&rt, &mut sums, 1440, NOTHING, counts(2, 3), 1_000_000_003);
-    compare(&rt, &sums, &[(0, 2_000)], &[(999_999_999, 2_000_000_000)]);
+    let sums = filled(&rt, rt.alloc(), method_of(1, None), "7 1 3  1440 2 3");
+    expect_sum(&rt, &sums, "0 2000 999999999 2000000000");
 }
