@@ -1,16 +1,17 @@
 //! Catalogs under definitions and removals, one after another. `@targets` and `@shop` are the
 //! documents of the sample stream.
 
-use crate::catalog_tables::expect_ends;
+use crate::tables::{Reading, expect_table};
 
 /// A shop's objective and what it refers to, and then a step or more.
-fn steps() -> &'static str {
-    "@targets
+const STEPS: &str = "@targets
 ~
 @shop
 ~
 ####
-+ AlertNotificationTarget on-call
+@kind AlertNotificationTarget
+@name on-call
+spec:
   target: 'pager'
 => Service shop
 Sli shop-good
@@ -59,52 +60,63 @@ AlertCondition fast-burn
 AlertNotificationTarget desk
 AlertNotificationTarget on-call
 shop-slo 0 shop-alerts
-shop-slo 0 workbook-page"
-}
+shop-slo 0 workbook-page
+";
 
 #[test]
 fn a_catalog_is_changed_step_by_step(rt: HostRuntime) {
-    expect_ends(&rt, rt.alloc(), steps());
+    expect_table(&rt, rt.alloc(), &Reading::Steps, STEPS);
 }
 
 /// One text each: references to nothing and to what stands behind, a built-in name, and copies.
-fn alone() -> &'static str {
-    r#"@shop
+const ALONE: &str = r#"@shop
 => AlertPolicy shop-alerts needs AlertNotificationTarget on-call
 ====
-+ AlertPolicy workbook-page
+@kind AlertPolicy
+@name workbook-page
+spec:
   {}
 => Reserved { name: Label(workbook-page) }
 ====
 @targets
-+ AlertNotificationTarget on-call
+@kind AlertNotificationTarget
+@name on-call
+spec:
   target: "pager"
 => AlertNotificationTarget desk
 AlertNotificationTarget on-call
 ====
 @targets
-+ AlertNotificationTarget on-call
+@kind AlertNotificationTarget
+@name on-call
+spec:
   target: pager2
 => DuplicateInText { kind: AlertNotificationTarget, name: Label(on-call) }
 ====
-+ AlertPolicy early
+@kind AlertPolicy
+@name early
+spec:
   conditions:
   - conditionRef: late
   notificationTargets:
   - targetRef: on-call
-+ AlertCondition late
+@kind AlertCondition
+@name late
+spec:
   severity: page
   condition:
     threshold: 2
     lookbackWindow: 1h
-+ AlertNotificationTarget on-call
+@kind AlertNotificationTarget
+@name on-call
+spec:
   target: pager
 => AlertPolicy early
 AlertCondition late
-AlertNotificationTarget on-call"#
-}
+AlertNotificationTarget on-call
+"#;
 
 #[test]
 fn a_text_defines_its_objects_or_has_a_first_fault(rt: HostRuntime) {
-    expect_ends(&rt, rt.alloc(), alone());
+    expect_table(&rt, rt.alloc(), &Reading::Steps, ALONE);
 }

@@ -1,20 +1,24 @@
 //! Rules of a catalog: references, objectives over values, bindings and limits.
 
-use crate::catalog_tables::{after_definition, document, expect_ends, text_of};
+use crate::catalog_tables::after_definition;
 use crate::expectations::expect_text;
+use crate::tables::{Reading, expect_table};
 use slo_catalog::Catalog;
 use std::alloc::Global;
 use std::process::Abort;
 
 /// The first reference that names no member: of an object, in the order of its fields.
-fn references() -> &'static str {
-    "+ SLI first
+const REFERENCES: &str = "@kind SLI
+@name first
+spec:
   thresholdMetric:
     metricSource:
       metricSourceRef: a
 => Sli first needs DataSource a
 ====
-+ SLI first
+@kind SLI
+@name first
+spec:
   ratioMetric:
     raw:
       metricSource:
@@ -22,7 +26,9 @@ fn references() -> &'static str {
     rawType: success
 => Sli first needs DataSource a
 ====
-+ SLI first
+@kind SLI
+@name first
+spec:
   ratioMetric:
     bad:
       metricSource:
@@ -32,7 +38,9 @@ fn references() -> &'static str {
         metricSourceRef: b
 => Sli first needs DataSource b
 ====
-+ SLI first
+@kind SLI
+@name first
+spec:
   ratioMetric:
     bad:
       metricSource:
@@ -41,7 +49,9 @@ fn references() -> &'static str {
       metricSource: {}
 => Sli first needs DataSource a
 ====
-+ AlertPolicy first
+@kind AlertPolicy
+@name first
+spec:
   notificationTargets:
   - targetRef: a
   - targetRef: b
@@ -49,72 +59,95 @@ fn references() -> &'static str {
   - conditionRef: c
 => AlertPolicy first needs AlertCondition c
 ====
-+ AlertPolicy first
+@kind AlertPolicy
+@name first
+spec:
   notificationTargets:
   - targetRef: a
   - targetRef: b
 => AlertPolicy first needs AlertNotificationTarget a
 ====
-+ AlertPolicy first
+@kind AlertPolicy
+@name first
+spec:
   conditions:
   - conditionRef: workbook-page
 => AlertPolicy first needs AlertCondition workbook-page
 ====
-+ SLO first
+@kind SLO
+@name first
+spec:
 @slo
   objectives:
   - target: 0.9
   alertPolicies: [workbook-page, workbook-ticket, pages]
 => Slo first needs Service shop
 ====
-+ SLO first
+@kind SLO
+@name first
+spec:
 @slo
   objectives:
   - target: 0.9
   alertPolicies: [workbook-page, workbook-ticket, pages]
-+ Service shop
+@kind Service
+@name shop
+spec:
   {}
 => Slo first needs Sli speed
 ====
-+ SLO first
+@kind SLO
+@name first
+spec:
 @slo
   objectives:
   - target: 0.9
   alertPolicies: [workbook-page, workbook-ticket, pages]
-+ SLI speed
+@kind SLI
+@name speed
+spec:
   ratioMetric:
     total:
       metricSource: {}
     good:
       metricSource: {}
-+ Service shop
+@kind Service
+@name shop
+spec:
   {}
-=> Slo first needs AlertPolicy pages"
-}
+=> Slo first needs AlertPolicy pages
+";
 
 #[test]
 fn the_first_reference_to_nothing_is_named(rt: HostRuntime) {
-    expect_ends(&rt, rt.alloc(), references());
+    expect_table(&rt, rt.alloc(), &Reading::Steps, REFERENCES);
 }
 
 /// The first objective that no value can be compared with: of the SLOs of the text, then of the
 /// others.
-fn objectives() -> &'static str {
-    "+ Service shop
+const OBJECTIVES: &str = "@kind Service
+@name shop
+spec:
   {}
 ~
-+ SLO fast
+@kind SLO
+@name fast
+spec:
 @slo
   objectives:
   - target: 0.9
 ####
-+ SLI speed
+@kind SLI
+@name speed
+spec:
   thresholdMetric:
     metricSource: {}
 => NeedsOp { slo: Label(fast), objective: 0 }
 ====
     op: lt
-+ SLI speed
+@kind SLI
+@name speed
+spec:
   thresholdMetric:
     metricSource: {}
 => NeedsOp { slo: Label(fast), objective: 0 }
@@ -123,7 +156,9 @@ fn objectives() -> &'static str {
     value: 1
   - target: 0.8
     value: 1
-+ SLI speed
+@kind SLI
+@name speed
+spec:
   thresholdMetric:
     metricSource: {}
 => NeedsOp { slo: Label(fast), objective: 1 }
@@ -134,12 +169,16 @@ fn objectives() -> &'static str {
     value: 1
     op: gte
   - target: 0.7
-+ SLI speed
+@kind SLI
+@name speed
+spec:
   thresholdMetric:
     metricSource: {}
 => NeedsOp { slo: Label(fast), objective: 2 }
 ====
-+ SLI speed
+@kind SLI
+@name speed
+spec:
   ratioMetric:
     total:
       metricSource: {}
@@ -151,65 +190,89 @@ Slo fast
 ====
     op: lt
     value: 1
-+ SLI speed
+@kind SLI
+@name speed
+spec:
   thresholdMetric:
     metricSource: {}
 => Service shop
 Sli speed
 Slo fast
-
-+ Service shop
+====
+@kind Service
+@name shop
+spec:
   {}
 ~
-+ SLI speed
+@kind SLI
+@name speed
+spec:
   ratioMetric:
     total:
       metricSource: {}
     good:
       metricSource: {}
-+ SLO b
+@kind SLO
+@name b
+spec:
 @slo
   objectives:
   - target: 0.9
-+ SLO a
+@kind SLO
+@name a
+spec:
 @slo
   objectives:
   - target: 0.9
 ~
-+ SLI speed
+@kind SLI
+@name speed
+spec:
   thresholdMetric:
 ####
     metricSource: {}
 => NeedsOp { slo: Label(a), objective: 0 }
 ====
     metricSource: {}
-+ SLO b
+@kind SLO
+@name b
+spec:
 @slo
   objectives:
   - target: 0.9
-=> NeedsOp { slo: Label(b), objective: 0 }"
-}
+=> NeedsOp { slo: Label(b), objective: 0 }
+";
 
 #[test]
 fn objectives_over_values_need_op_and_value(rt: HostRuntime) {
-    expect_ends(&rt, rt.alloc(), objectives());
+    expect_table(&rt, rt.alloc(), &Reading::Steps, OBJECTIVES);
 }
 
 /// A service, an indicator of it, and policies with one condition and without. They stand where
-/// `bindings` has the line `@policies`.
-const POLICIES: &str = "+ Service shop
+/// `BINDINGS` has the line `@policies`.
+const POLICIES: &str = "@kind Service
+@name shop
+spec:
   {}
-+ SLI speed
+@kind SLI
+@name speed
+spec:
   ratioMetric:
     total:
       metricSource: {}
     good:
       metricSource: {}
-+ AlertPolicy empty
+@kind AlertPolicy
+@name empty
+spec:
   conditions: []
-+ AlertPolicy bare
+@kind AlertPolicy
+@name bare
+spec:
   {}
-+ AlertPolicy pages
+@kind AlertPolicy
+@name pages
+spec:
   conditions:
   - metadata:
       name: fast
@@ -224,26 +287,33 @@ const POLICIES: &str = "+ Service shop
 
 /// Bindings stand by SLO, objective and policy, and the first of those that refer to an object is
 /// named.
-fn bindings() -> &'static str {
-    "@policies
+const BINDINGS: &str = "@policies
 ~
-+ SLO d
+@kind SLO
+@name d
+spec:
 @slo
   objectives:
   - target: 0.9
   alertPolicies: []
-+ SLO c
+@kind SLO
+@name c
+spec:
 @slo
   objectives:
   - target: 0.9
   alertPolicies: [workbook-page]
-+ SLO b
+@kind SLO
+@name b
+spec:
 @slo
   objectives:
   - target: 0.9
   - target: 0.99
   alertPolicies: [workbook-ticket, empty, pages, bare]
-+ SLO a
+@kind SLO
+@name a
+spec:
 @slo
   objectives:
   - target: 0.9
@@ -265,15 +335,19 @@ b 0 pages
 b 1 workbook-ticket
 b 1 pages
 c 0 workbook-page
-
+====
 @policies
 ~
-+ SLO b
+@kind SLO
+@name b
+spec:
 @slo
   objectives:
   - target: 0.9
   alertPolicies: [pages]
-+ SLO a
+@kind SLO
+@name a
+spec:
 @slo
   objectives:
   - target: 0.9
@@ -300,15 +374,15 @@ Slo b
 AlertPolicy bare
 AlertPolicy pages
 AlertCondition fast
-b 0 pages"
-}
+b 0 pages
+";
 
 #[test]
 fn bindings_and_referrers_stand_in_order(rt: HostRuntime) {
-    let table = bindings()
+    let table = BINDINGS
         .replace(rt.alloc(), "@policies\n", POLICIES)
         .expect(&rt, "memory");
-    expect_ends(&rt, rt.alloc(), &table);
+    expect_table(&rt, rt.alloc(), &Reading::Steps, &table);
 }
 
 /// The fault of a text in a catalog of its own; empty if it has none.
@@ -330,26 +404,31 @@ struct Limit {
 }
 
 /// What an SLO refers to.
-const SHOP: &str = "+ Service shop
+const SHOP: &str = "@kind Service
+@name shop
+spec:
   {}
-+ SLI speed
+@kind SLI
+@name speed
+spec:
   ratioMetric:
     total:
       metricSource: {}
     good:
-      metricSource: {}";
+      metricSource: {}
+";
 
 /// The limits of a catalog. An SLO of the last has ten bindings.
 const LIMITS: [Limit; 4] = [
     Limit {
-        name: "Limit(Objects)",
+        name: "Limit(Objects)\n",
         kind: "Service",
         spec: "  {}",
         before: "",
         most: 2_000,
     },
     Limit {
-        name: "Limit(Slis)",
+        name: "Limit(Slis)\n",
         kind: "SLI",
         spec: "  ratioMetric:
     total:
@@ -360,7 +439,7 @@ const LIMITS: [Limit; 4] = [
         most: 200,
     },
     Limit {
-        name: "Limit(Slos)",
+        name: "Limit(Slos)\n",
         kind: "SLO",
         spec: "@slo
   objectives:
@@ -369,7 +448,7 @@ const LIMITS: [Limit; 4] = [
         most: 200,
     },
     Limit {
-        name: "Limit(Bindings)",
+        name: "Limit(Bindings)\n",
         kind: "SLO",
         spec: "@slo
   objectives:
@@ -384,9 +463,14 @@ const LIMITS: [Limit; 4] = [
     },
 ];
 
+/// A document of a kind and a name.
+fn document(rt: &impl Abort, alloc: Global, kind: &str, name: &str, spec: &str) -> String {
+    format!(in alloc; "@kind {kind}\n@name {name}\nspec:\n{spec}\n").expect(rt, "memory")
+}
+
 /// A text with as many documents as are within a limit.
 fn text_within(rt: &impl Abort, alloc: Global, limit: &Limit) -> String {
-    let mut text = text_of(rt, alloc, limit.before);
+    let mut text = String::from_str(alloc, limit.before).expect(rt, "memory");
     for number in 0..limit.most {
         let name = format!(in alloc; "n{number}").expect(rt, "memory");
         let next = document(rt, alloc, limit.kind, &name, limit.spec);
@@ -433,6 +517,6 @@ fn a_catalog_has_at_most_16777216_bytes(rt: HostRuntime) {
         &rt,
         "574",
         &fault_of(&rt, rt.alloc(), &above),
-        "Limit(Catalog)",
+        "Limit(Catalog)\n",
     );
 }

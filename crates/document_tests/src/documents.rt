@@ -15,12 +15,40 @@ use yaml_subset::read_documents;
 use yaml_terms::{Node, Nodes};
 use yaml_writing::laws;
 
-/// A text in which `@targets` and `@shop` stand for the documents of the sample stream.
+/// The version and the name of a document.
+const HEAD: &str = "apiVersion: openslo/v1
+metadata:
+  name: shop
+";
+
+/// What begins the `spec` of an SLO of the service `shop` and the indicator `speed`.
+const SLO: &str = "  service: shop
+  indicatorRef: speed
+  timeWindow:
+  - duration: 30d
+    isRolling: true
+  budgetingMethod: Occurrences
+";
+
+/// What stands in a text for these short names: `¶` for a line feed, the first two lines of a
+/// document for `@kind`, and the next two for `@name`.
+const SAMPLES: [(&str, &str); 7] = [
+    ("¶", "\n"),
+    ("@head\n", HEAD),
+    ("@kind ", "---\napiVersion: openslo/v1\nkind: "),
+    ("@name ", "metadata:\n  name: "),
+    ("@slo\n", SLO),
+    ("@targets\n", ALERT_TARGETS),
+    ("@shop\n", SHOP),
+];
+
+/// A text with what its short names stand for.
 pub(crate) fn with_samples(rt: &impl Abort, alloc: Global, text: &str) -> String {
-    let text = text
-        .replace(alloc, "@targets\n", ALERT_TARGETS)
-        .expect(rt, "memory");
-    text.replace(alloc, "@shop\n", SHOP).expect(rt, "memory")
+    let mut whole = String::from_str(alloc, text).expect(rt, "memory");
+    for (name, sample) in &SAMPLES {
+        whole = whole.replace(alloc, *name, *sample).expect(rt, "memory");
+    }
+    whole
 }
 
 /// The documents of a text.
@@ -29,6 +57,7 @@ pub(crate) fn documents_of(rt: &impl Abort, alloc: Global, text: &str) -> Nodes
     ensures { All (λ node. IsWritable (node_view node)) result.items }
 {
     laws::standing_nodes_are_writable();
+    let text = with_samples(rt, alloc, text);
     read_documents(alloc, text.as_bytes()).expect(rt, "documents")
 }
 

@@ -2,7 +2,6 @@
 
 use crate::expectations::{expect, expect_bytes};
 use slo_duration::{Duration, DurationFault, Unit, read_duration, rolling_minutes, write_duration};
-use std::test::Fail;
 
 /// Texts with their rolling minutes.
 const DURATIONS: [(&str, u32); 12] = [
@@ -58,16 +57,14 @@ fn a_text_that_is_no_duration_has_its_first_fault(rt: HostRuntime) {
 }
 
 #[test]
-fn a_duration_is_written_behind_what_is_there(rt: HostRuntime) -> Result<(), Fail> {
-    let mut out = b"at ".to_vec(rt.alloc())?;
+fn a_duration_is_written_behind_what_is_there(rt: HostRuntime) {
     let quarter = Duration {
         count: 4,
         unit: Unit::Quarter,
     };
-    write_duration(rt.alloc(), &mut out, quarter)?;
-    if let Ok(week) = read_duration(b"007d") {
-        write_duration(rt.alloc(), &mut out, week)?;
-    }
+    let week = read_duration(b"007d").expect(&rt, "a week");
+    let mut out = b"at ".to_vec(rt.alloc()).expect(&rt, "memory");
+    write_duration(rt.alloc(), &mut out, quarter).expect(&rt, "memory");
+    write_duration(rt.alloc(), &mut out, week).expect(&rt, "memory");
     expect_bytes(&rt, &out, b"at 4Q7d");
-    Ok(())
 }

@@ -34,6 +34,8 @@ mod objective_faults;
 #[cfg(test)]
 mod openslo_examples;
 #[cfg(test)]
+mod tables;
+#[cfg(test)]
 mod written_nodes;
 #[cfg(test)]
 mod written_objects;

@@ -6,7 +6,6 @@ use crate::expectations::{expect, expect_bytes};
 use exact_fraction::{Bytes, Label, Text, read_label, read_zone_name};
 use std::cmp::Ordering;
 use std::collections::HashSet;
-use std::test::Fail;
 
 const LONGEST: &str = "aaaaaaaaaaaaaaaaaaaaaaaaaaaaaaaaaaaaaaaaaaaaaaaaaaaaaaaaaaaaaaa";
 
@@ -44,11 +43,10 @@ fn names_are_read(rt: HostRuntime) {
 }
 
 #[test]
-fn a_zone_name_is_shown_as_its_text(rt: HostRuntime) -> Result<(), Fail> {
-    let zone = read_zone_name(b"Europe/Rome").ok_or("no zone")?;
-    let shown = format!(in rt.alloc(); "{zone}")?;
+fn a_zone_name_is_shown_as_its_text(rt: HostRuntime) {
+    let zone = read_zone_name(b"Europe/Rome").expect(&rt, "a zone");
+    let shown = format!(in rt.alloc(); "{zone}").expect(&rt, "memory");
     expect_bytes(&rt, shown.as_bytes(), b"Europe/Rome");
-    Ok(())
 }
 
 /// Pairs of labels, with their order.
@@ -82,32 +80,30 @@ fn labels_are_compared_by_their_bytes(rt: HostRuntime) {
 }
 
 #[test]
-fn labels_are_found_by_their_bytes(rt: HostRuntime) -> Result<(), Fail> {
+fn labels_are_found_by_their_bytes(rt: HostRuntime) {
     let mut known = HashSet::new(rt.alloc());
     for (first, _, _) in &PAIRS {
         let label = read_label(first.as_bytes()).expect(&rt, "a label");
-        let _ = known.insert(label)?;
+        let _ = known.insert(label).expect(&rt, "memory");
         expect(&rt, known.contains(&label), first);
     }
     let absent = read_label(LONGEST_OTHER.as_bytes()).expect(&rt, "a label");
     expect(&rt, !known.contains(&absent), LONGEST_OTHER);
-    Ok(())
 }
 
 #[test]
-fn texts_keep_their_memory(rt: HostRuntime) -> Result<(), Fail> {
-    let text = Text::from_string(String::from_str(rt.alloc(), "caf\u{e9}")?);
+fn texts_keep_their_memory(rt: HostRuntime) {
+    let string = String::from_str(rt.alloc(), "caf\u{e9}").expect(&rt, "memory");
+    let text = Text::from_string(string);
     expect_bytes(&rt, text.as_bytes(), text.as_str().as_bytes());
     expect_bytes(&rt, text.into_string().as_bytes(), "caf\u{e9}".as_bytes());
     expect_bytes(&rt, Text::new(rt.alloc()).as_bytes(), b"");
-    Ok(())
 }
 
 #[test]
-fn bytes_keep_their_memory(rt: HostRuntime) -> Result<(), Fail> {
-    let bytes = Bytes::from_vec([0u8, 255].to_vec(rt.alloc())?);
+fn bytes_keep_their_memory(rt: HostRuntime) {
+    let bytes = Bytes::from_vec([0u8, 255].to_vec(rt.alloc()).expect(&rt, "memory"));
     expect_bytes(&rt, bytes.as_bytes(), &[0, 255]);
     expect_bytes(&rt, &bytes.into_vec(), &[0, 255]);
     expect_bytes(&rt, Bytes::new(rt.alloc()).as_bytes(), b"");
-    Ok(())
 }

@@ -1,10 +1,11 @@
 //! OpenSLO documents at fault, each with the field and the rule that OpenSLO's words name first.
 
-use crate::object_tables::{expect_lines, expect_table};
+use crate::expectations::expect_text;
+use crate::object_tables::names_of;
+use crate::tables::{Reading, expect_table};
 
 /// Fields that are missing, or of another form.
-fn forms() -> &'static str {
-    "@head
+const FORMS: &str = "@head
 ####
 kind: DataSource
 spec:
@@ -153,17 +154,16 @@ spec:
     threshold: 1
     lookbackWindow: 1h
     alertAfter: [5m]
-=> alertAfter NotDuration"
-}
+=> alertAfter NotDuration
+";
 
 #[test]
 fn a_field_of_another_form_is_named(rt: HostRuntime) {
-    expect_table(&rt, rt.alloc(), forms());
+    expect_table(&rt, rt.alloc(), &Reading::Names, FORMS);
 }
 
 /// Values that may not stand, and fields and items that are too many or too few.
-fn values() -> &'static str {
-    "@head
+const VALUES: &str = "@head
 ####
 kind: AlertCondition
 spec:
@@ -310,18 +310,17 @@ spec:
 kind: AlertPolicy
 spec:
   conditions: [a, b]
-=> conditions ListLength"
-}
+=> conditions ListLength
+";
 
 #[test]
 fn a_value_that_may_not_stand_is_named(rt: HostRuntime) {
-    expect_table(&rt, rt.alloc(), values());
+    expect_table(&rt, rt.alloc(), &Reading::Names, VALUES);
 }
 
 /// Several faults: the first in the order of the fields is named, depth first, and unknown
 /// fields of a map last.
-fn several() -> &'static str {
-    "@head
+const SEVERAL: &str = "@head
 ####
 kind: DataSource
 spec:
@@ -407,17 +406,16 @@ spec:
     metricSource:
       type: []
       metricSourceRef: []
-=> metricSourceRef BadName"
-}
+=> metricSourceRef BadName
+";
 
 #[test]
 fn the_first_of_several_faults_is_named(rt: HostRuntime) {
-    expect_table(&rt, rt.alloc(), several());
+    expect_table(&rt, rt.alloc(), &Reading::Names, SEVERAL);
 }
 
 /// Documents that aren't whole, or whose head is at fault. A name has at most 63 characters.
-fn heads() -> &'static str {
-    "[]
+const HEADS: &str = "[]
 => document NotMap
 ====
 a text
@@ -465,7 +463,7 @@ kind: Service
 metadata: {}
 spec: 5
 => name Missing
-
+====
 apiVersion: openslo/v1
 kind: Service
 metadata:
@@ -506,7 +504,8 @@ more: x
   name: a
 spec: ~
 => spec Missing
-
+====
+####
 more: x
 apiVersion: openslo/v1
 kind: Service
@@ -527,18 +526,18 @@ kind: Service
 metadata:
   name: aaaaaaaaaaaaaaaaaaaaaaaaaaaaaaaaaaaaaaaaaaaaaaaaaaaaaaaaaaaaaaaa
 spec: {}
-=> name BadName"
-}
+=> name BadName
+";
 
 #[test]
 fn the_first_fault_of_a_head_is_named(rt: HostRuntime) {
-    expect_table(&rt, rt.alloc(), heads());
+    expect_table(&rt, rt.alloc(), &Reading::Names, HEADS);
 }
 
 #[test]
 fn a_description_has_at_most_1050_characters(rt: HostRuntime) {
     let longest = "é".repeat(rt.alloc(), 1_050).expect(&rt, "memory");
-    for (more, wanted) in [("", "Service shop"), ("x", "description TooLong")] {
+    for (more, wanted) in [("", "Service shop\n"), ("x", "description TooLong\n")] {
         let text = format!(in rt.alloc();
             "apiVersion: openslo/v1
 kind: Service
@@ -549,6 +548,6 @@ spec:
 "
         )
         .expect(&rt, "memory");
-        expect_lines(&rt, rt.alloc(), &text, wanted);
+        expect_text(&rt, &text, &names_of(&rt, rt.alloc(), &text), wanted);
     }
 }

@@ -1,10 +1,9 @@
 //! Faults of SLOs: of what they refer to, their windows, methods, objectives and policies.
 
-use crate::object_tables::expect_table;
+use crate::tables::{Reading, expect_table};
 
 /// What stands in an SLO up to its window, in one of many forms.
-fn heads() -> &'static str {
-    "@head
+const HEADS: &str = "@head
 kind: SLO
 spec:
 ####
@@ -47,7 +46,7 @@ spec:
   indicatorRef: a
   timeWindow: [a, b]
 => timeWindow ListLength
-
+====
 @head
 kind: SLO
 spec:
@@ -92,17 +91,16 @@ spec:
   - duration: 1d
     isRolling: true
     calendar: {}
-=> calendar Both"
-}
+=> calendar Both
+";
 
 #[test]
 fn the_first_fault_before_the_method_is_named(rt: HostRuntime) {
-    expect_table(&rt, rt.alloc(), heads());
+    expect_table(&rt, rt.alloc(), &Reading::Names, HEADS);
 }
 
 /// What stands from the method on.
-fn objectives() -> &'static str {
-    "@head
+const OBJECTIVES: &str = "@head
 kind: SLO
 spec:
   service: shop
@@ -258,10 +256,10 @@ spec:
   - target: 0.9
   alertPolicies:
   - []
-=> alertPolicies NotMap"
-}
+=> alertPolicies NotMap
+";
 
 #[test]
 fn the_first_fault_from_the_method_on_is_named(rt: HostRuntime) {
-    expect_table(&rt, rt.alloc(), objectives());
+    expect_table(&rt, rt.alloc(), &Reading::Names, OBJECTIVES);
 }

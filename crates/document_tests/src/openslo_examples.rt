@@ -1,13 +1,10 @@
 //! The texts of the folder `examples/openslo`, and what their documents stand for.
 
-use crate::object_tables::expect_lines;
-use std::alloc::Global;
-use std::process::Abort;
+use crate::tables::{Reading, expect_table};
 
 /// The texts of the examples without their comments, each with a line for each object or fault, and
-/// behind `-- ` changes: a part, what is put in its place, and the lines then.
-fn examples() -> &'static str {
-    r#"apiVersion: openslo/v1
+/// behind it changes, each with the lines then.
+const EXAMPLES: &str = "apiVersion: openslo/v1
 kind: DataSource
 metadata:
   name: my-datasource
@@ -17,7 +14,9 @@ spec:
   connectionDetails:
     accessKeyID: accessKey
     secretAccessKey: secretAccessKey
+####
 => DataSource my-datasource
+====
 --   type: CloudWatch
 -> 
 => type Missing
@@ -29,6 +28,7 @@ metadata:
   displayName: My Rad Service
 spec:
   description: This is a great description of an even better service.
+####
 => Service my-rad-service
 ====
 apiVersion: openslo/v1
@@ -78,15 +78,18 @@ spec:
         clusterId: metrics-cluster
         databaseName: metrics-db
         query: SELECT value, timestamp FROM metrics WHERE timestamp BETWEEN :date_from AND :date_to
+####
 => Sli ok-requests
 Sli stored-ratio
 Sli delay
+====
 -- rawType: success
 -> rawType: success
     good: {}
 => Sli ok-requests
 raw Both
 Sli delay
+====
 -- metricSourceRef: datadog-datasource
 -> metricSourceRef: Datadog
 => metricSourceRef BadName
@@ -114,7 +117,9 @@ spec:
       target: 0.98
       timeSliceTarget: 0.95
       timeSliceWindow: 1m
+####
 => name BadName
+====
 -- TestSLO
 -> test-slo
 => service BadName
@@ -155,17 +160,21 @@ spec:
       target: 0.99
       timeSliceTarget: 0.95
       timeSliceWindow: 5m
+####
 => Slo rolling
 Slo monthly
+====
 -- isRolling: true
 -> isRolling: true
       calendar: {}
 => calendar Both
 Slo monthly
+====
 -- duration: 1M
 -> duration: 24h
 => Slo rolling
 duration OutOfRange
+====
 -- timeSliceWindow: 5m
 -> timeSliceWindow: 7m
 => Slo rolling
@@ -190,7 +199,9 @@ spec:
       indicatorRef: search
       target: 0.99
       compositeWeight: 2
+####
 => indicator Neither
+====
 --   timeWindow:
 ->   indicatorRef: checkout
   timeWindow:
@@ -209,10 +220,13 @@ spec:
     - conditionRef: cpu-usage-breach
   notificationTargets:
     - targetRef: OnCallDevopsMailNotification
+####
 => name BadName
+====
 -- name: AlertPolicy
 -> name: cpu-alerts
 => targetRef BadName
+====
 -- name: AlertPolicy
   displayName: Alert Policy
 spec:
@@ -240,13 +254,17 @@ spec:
     threshold: 2
     lookbackWindow: 1h
     alertAfter: 5m
+####
 => AlertCondition cpu-usage-breach
+====
 -- threshold: 2
 -> threshold: 10000.5
 => threshold OutOfRange
+====
 -- lookbackWindow: 1h
 -> lookbackWindow: 0h
 => lookbackWindow OutOfRange
+====
 -- lookbackWindow: 1h
 -> lookbackWindow: 31d
 => lookbackWindow OutOfRange
@@ -258,12 +276,12 @@ metadata:
 spec:
   description: Notifies by a mail message to the on-call devops mailing group
   target: email
-=> name BadName"#
-}
+####
+=> name BadName
+";
 
 /// The example whose objects stand inside of its SLO, in the same form.
-fn inline_example() -> &'static str {
-    "apiVersion: openslo/v1
+const INLINE_EXAMPLE: &str = "apiVersion: openslo/v1
 kind: SLO
 metadata:
   name: inline
@@ -325,38 +343,20 @@ code=\"total\",host=\"*\",instance=\"127.0.0.1:9090\"}
             spec:
               description: Notifies by a mail message to the on-call devops mailing group
               target: email
+####
 => Sli good
 AlertCondition cpu-usage-breach
 AlertNotificationTarget on-call-mail
 AlertPolicy cpu-alerts
 Slo inline
+====
 -- kind: AlertCondition
 -> kind: AlertPolicy
-=> kind BadKind"
-}
-
-/// A changed text is read as the change says.
-fn expect_change(rt: &impl Abort, alloc: Global, text: &str, change: &str) {
-    let (part, rest) = change.split_once("\n-> ").unwrap_or((change, ""));
-    let (changed, wanted) = rest.split_once("\n=> ").unwrap_or((rest, "no change"));
-    let text = text.replace(alloc, part, changed).expect(rt, "memory");
-    expect_lines(rt, alloc, &text, wanted);
-}
-
-/// An example and its changes are read as they say.
-fn expect_example(rt: &impl Abort, alloc: Global, example: &str) {
-    let (text, rest) = example.split_once("\n=> ").unwrap_or((example, ""));
-    let (wanted, changes) = rest.split_once("\n-- ").unwrap_or((rest, ""));
-    expect_lines(rt, alloc, text, wanted);
-    for change in changes.split_terminator("\n-- ") {
-        expect_change(rt, alloc, text, change);
-    }
-}
+=> kind BadKind
+";
 
 #[test]
 fn the_examples_are_read_as_they_say(rt: HostRuntime) {
-    for example in examples().split("\n====\n") {
-        expect_example(&rt, rt.alloc(), example);
-    }
-    expect_example(&rt, rt.alloc(), inline_example());
+    expect_table(&rt, rt.alloc(), &Reading::Names, EXAMPLES);
+    expect_table(&rt, rt.alloc(), &Reading::Names, INLINE_EXAMPLE);
 }

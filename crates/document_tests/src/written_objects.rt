@@ -1,7 +1,8 @@
 //! OpenSLO objects and their canonical texts. Each expected text was written by hand.
 
-use crate::documents::{objects_of, with_samples};
+use crate::documents::objects_of;
 use crate::expectations::expect;
+use crate::tables::{Reading, expect_table};
 use object_writing::write_object;
 use std::alloc::Global;
 use std::process::Abort;
@@ -17,10 +18,16 @@ fn writing_of(rt: &impl Abort, alloc: Global, text: &str) -> Vec<u8> {
     out
 }
 
-/// Documents, and what their objects are written as. The samples stand by their name. Documents
-/// that are written alike stand apart by `++++`, behind what begins each of them and `####`.
-fn writings() -> &'static str {
-    r#"apiVersion: openslo/v1
+/// The objects of a text are written so, and those of what is written once more.
+pub(crate) fn expect_written(rt: &impl Abort, alloc: Global, text: &str, wanted: &str) {
+    let found = writing_of(rt, alloc, text);
+    expect(rt, found.as_slice() == wanted.as_bytes(), text);
+    let again = writing_of(rt, alloc, wanted);
+    expect(rt, again.as_slice() == wanted.as_bytes(), wanted);
+}
+
+/// Documents, and what their objects are written as. The samples stand by their name.
+const WRITINGS: &str = r#"apiVersion: openslo/v1
 kind: Service
 metadata:
   name: shop
@@ -116,7 +123,23 @@ spec:
   - target: 0.999
     timeSliceTarget: 0.95
     timeSliceWindow: 5
-++++
+=> ---
+apiVersion: openslo/v1
+kind: SLO
+metadata:
+  name: "shop-slo"
+spec:
+  service: "shop"
+  indicatorRef: "shop-good"
+  timeWindow:
+    - duration: 4w
+      isRolling: true
+  budgetingMethod: Timeslices
+  objectives:
+    - target: 0.999
+      timeSliceTarget: 0.95
+      timeSliceWindow: 5
+====
   - timeSliceWindow: "05m"
     timeSliceTarget: "0.95"
     targetPercent: "99.90"
@@ -137,6 +160,7 @@ spec:
       timeSliceTarget: 0.95
       timeSliceWindow: 5
 ====
+####
 apiVersion: openslo/v1
 kind: SLO
 metadata:
@@ -362,30 +386,10 @@ spec:
       target: 0.999
   alertPolicies:
     - alertPolicyRef: "shop-alerts"
-    - alertPolicyRef: "workbook-page""#
-}
-
-/// The objects of a text are written so.
-fn expect_written(rt: &impl Abort, alloc: Global, text: &str, wanted: &str) {
-    let found = writing_of(rt, alloc, text);
-    expect(rt, found.as_slice() == wanted.as_bytes(), text);
-}
-
-/// Texts are written as their case says, and what is written is written so again.
-fn expect_case(rt: &impl Abort, alloc: Global, case: &str) {
-    let (texts, wanted) = case.split_once("=> ").unwrap_or((case, ""));
-    let (head, texts) = texts.split_once("####\n").unwrap_or(("", texts));
-    let wanted = format!(in alloc; "{wanted}\n").expect(rt, "memory");
-    for text in texts.split("++++\n") {
-        let text = format!(in alloc; "{head}{text}").expect(rt, "memory");
-        expect_written(rt, alloc, &with_samples(rt, alloc, &text), &wanted);
-    }
-    expect_written(rt, alloc, &wanted, &wanted);
-}
+    - alertPolicyRef: "workbook-page"
+"#;
 
 #[test]
 fn objects_are_written_in_one_form(rt: HostRuntime) {
-    for case in writings().split("\n====\n") {
-        expect_case(&rt, rt.alloc(), case);
-    }
+    expect_table(&rt, rt.alloc(), &Reading::Objects, WRITINGS);
 }

@@ -42,7 +42,7 @@ fn place_of(alloc: Global, text: &[u8]) -> Option<usize> {
 #[test]
 fn places_of_bad_bytes(rt: HostRuntime) {
     for (text, place) in &PLACES {
-        assert_eq!(rt; place_of(rt.alloc(), text), Some(*place));
+        expect(&rt, place_of(rt.alloc(), text) == Some(*place), "a place");
     }
 }
 

@@ -11,8 +11,8 @@ use yaml_subset::read_documents;
 /// 8.7, 8.8 (whose line of three spaces the profile takes as blank), 8.9, 8.14 to 8.16, the first
 /// two items of 8.20, 9.3 from its second document on, and 9.6 without its directive (the profile
 /// passes over the empty document).
-fn examples() -> &'static str {
-    "- Mark McGwire¶- Sammy Sosa¶- Ken Griffey¶ => [Mark McGwire;Sammy Sosa;Ken Griffey;].
+const EXAMPLES: &str = "\
+- Mark McGwire¶- Sammy Sosa¶- Ken Griffey¶ => [Mark McGwire;Sammy Sosa;Ken Griffey;].
 hr:  65    # Home runs¶avg: 0.278 # Batting average¶\
 rbi: 147   # Runs Batted In¶ => {hr=65;avg=0.278;rbi=147;}.
 american:¶- Boston Red Sox¶- Detroit Tigers¶- New York Yankees¶national:¶- New York Mets¶\
@@ -85,19 +85,17 @@ block mapping:¶ key: value¶ => {block mapping={key=value;};}.
 -¶  \"flow in block\"¶- >¶ Block scalar¶ => [\"flow in block\";\"Block scalar\\n\";].
 ...¶# No document¶...¶|¶\
 %!PS-Adobe-2.0 # Not the first line¶ => \"%!PS-Adobe-2.0 # Not the first line\\n\".
-Document¶---¶# Empty¶...¶---¶matches %: 20¶ => Document.{matches %=20;}."
-}
+Document¶---¶# Empty¶...¶---¶matches %: 20¶ => Document.{matches %=20;}.";
 
 #[test]
 fn examples_of_the_specification(rt: HostRuntime) {
-    expect_read(&rt, rt.alloc(), examples());
+    expect_read(&rt, rt.alloc(), EXAMPLES);
 }
 
 /// Examples of YAML 1.2.2 with a construct that the profile leaves out: 2.6, 2.10, 2.11, 2.13, 2.17
 /// twice, 2.18 twice, 2.23, 5.10 twice, 5.14, 6.2, 6.3, 7.8, 8.2, 8.3, 8.10, 8.18 to 8.20, 9.2 to
 /// 9.4 and 9.6.
-fn examples_left_out() -> &'static str {
-    "Mark McGwire: {hr: 65, avg: 0.278}¶ => 1 LeftOut
+const EXAMPLES_LEFT_OUT: &str = "Mark McGwire: {hr: 65, avg: 0.278}¶ => 1 LeftOut
 ---¶hr:¶- Mark McGwire¶# Following node labeled SS¶- &SS Sammy Sosa¶rbi:¶\
 - *SS # Subsequent occurrence¶- Ken Griffey¶ => 5 LeftOut
 ? - Detroit Tigers¶  - Chicago cubs¶: - 2001-07-23¶ => 1 LeftOut
@@ -122,17 +120,15 @@ plain key: in-line value¶: # Both empty¶\"quoted key\":¶- entry¶ => 2 Colon
 %YAML 1.2¶---¶Document¶ => 1 LeftOut
 Bare¶document¶ => 2 Indent
 ---¶{ matches¶% : 20 }¶ => 2 LeftOut
-Document¶---¶# Empty¶...¶%YAML 1.2¶---¶matches %: 20¶ => 5 LeftOut"
-}
+Document¶---¶# Empty¶...¶%YAML 1.2¶---¶matches %: 20¶ => 5 LeftOut";
 
 #[test]
 fn examples_with_what_is_left_out(rt: HostRuntime) {
-    expect_read(&rt, rt.alloc(), examples_left_out());
+    expect_read(&rt, rt.alloc(), EXAMPLES_LEFT_OUT);
 }
 
 /// More texts of the profile.
-fn profile_texts() -> &'static str {
-    "a: 1¶... # end¶b: 2¶ => {a=1;}.{b=2;}.
+const PROFILE_TEXTS: &str = "a: 1¶... # end¶b: 2¶ => {a=1;}.{b=2;}.
 a: | # c¶  x¶b: >+\t# d¶  y¶ => {a=\"x\\n\";b=\"y\\n\";}.
 'a': \"b\" # c¶\"d\" : '' # e¶ => {a=\"b\";d=\"\";}.
 a: b\t# c¶d: e\tf¶ => {a=b;d=e\\tf;}.
@@ -158,18 +154,16 @@ a:¶  b: 1¶c:¶  b: 2¶ => {a={b=1;};c={b=2;};}.
 > [[[[[[[[[[[[[[[[[[[[[[[[[[[[[[[[];];];];];];];];];];];];];];];];];];];];];];];];];];];];];];];].
 - - - - - - - - - - - - - - - - - - - - - - - - - - - - - - - - a¶ =\
 > [[[[[[[[[[[[[[[[[[[[[[[[[[[[[[[[a;];];];];];];];];];];];];];];];];];];];];];];];];];];];];];];\
-];]."
-}
+];].";
 
 #[test]
 fn more_texts_of_the_profile(rt: HostRuntime) {
-    expect_read(&rt, rt.alloc(), profile_texts());
+    expect_read(&rt, rt.alloc(), PROFILE_TEXTS);
 }
 
 /// More texts that are none. From the fifteenth on two rows are broken, and the first of the table
 /// of rows is named.
-fn other_texts() -> &'static str {
-    "# \u{1}¶ => 1 Control
+const OTHER_TEXTS: &str = "# \u{1}¶ => 1 Control
 a: 1\r => 1 Control
   \t a: 1¶ => 1 Tab
 a:¶\tb: 1¶ => 2 Tab
@@ -190,12 +184,11 @@ a: 1¶ b: c: d¶ => 2 Indent
 a: \"\\q\" b¶ => 1 Quote
 a: [b,, \"\\q\"]¶ => 1 Escape
 a: [b: c], d: e¶ => 1 FlowForm
-a: 1¶a: b: c¶ => 2 Colon"
-}
+a: 1¶a: b: c¶ => 2 Colon";
 
 #[test]
 fn more_texts_that_are_none(rt: HostRuntime) {
-    expect_read(&rt, rt.alloc(), other_texts());
+    expect_read(&rt, rt.alloc(), OTHER_TEXTS);
 }
 
 /// How many keys a large map has, and the step from one to the next. Both are primes, so the keys

@@ -86,8 +86,7 @@ pub(crate) fn answer(alloc: Global, text: &str) -> Result<String, AllocError> {
 pub(crate) fn expect_read(rt: &impl Abort, alloc: Global, table: &str) {
     for case in table.split("\n") {
         let (text, wanted) = case.split_once(" => ").unwrap_or((case, "no case"));
-        let text = text.replace(alloc, "¶", "\n").expect(rt, "memory");
-        let text = with_samples(rt, alloc, &text);
+        let text = with_samples(rt, alloc, text);
         let found = answer(alloc, &text).expect(rt, "memory");
         expect_text(rt, case, &found, wanted);
     }

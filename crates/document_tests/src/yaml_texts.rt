@@ -3,8 +3,7 @@
 use crate::yaml_tables::expect_read;
 
 /// Texts of the profile.
-fn profile_texts() -> &'static str {
-    " =>\u{20}
+const PROFILE_TEXTS: &str = " =>\u{20}
 a: 1¶---¶- b¶ => {a=1;}.[b;].
 a: >-¶  one¶  two¶¶  three¶b: |+¶  x¶¶ => {a=\"one two\\nthree\";b=\"x\\n\\n\";}.
 'it''s' => \"it's\".
@@ -72,17 +71,15 @@ k:¶                 k:¶                  k:¶                   k:¶          
 ¶                           k:¶                            k:¶                             k:\
 ¶                              k:¶                               k:¶ => {k={k={k={k={k={k={k={k=\
 {k={k={k={k={k={k={k={k={k={k={k={k={k={k={k={k={k={k={k={k={k={k={k={k=;};};};};};};};};};};};};\
-};};};};};};};};};};};};};};};};};};};}."
-}
+};};};};};};};};};};};};};};};};};};};}.";
 
 #[test]
 fn texts_of_the_profile(rt: HostRuntime) {
-    expect_read(&rt, rt.alloc(), profile_texts());
+    expect_read(&rt, rt.alloc(), PROFILE_TEXTS);
 }
 
 /// Texts that are none, each with the line and the row that are named.
-fn other_texts() -> &'static str {
-    "a: 1¶a: 2¶ => 2 DuplicateKey
+const OTHER_TEXTS: &str = "a: 1¶a: 2¶ => 2 DuplicateKey
 a: 1¶\tb: 2¶ => 2 Tab
 a:¶    b: 1¶  c: 2¶ => 3 Indent
 a: b: c¶ => 1 Colon
@@ -138,10 +135,9 @@ k:¶                 k:¶                  k:¶                   k:¶          
 ¶                        k:¶                         k:¶                          k:\
 ¶                           k:¶                            k:¶                             k:\
 ¶                              k:¶                               k:\
-¶                                k:¶ => 33 TooDeep"
-}
+¶                                k:¶ => 33 TooDeep";
 
 #[test]
 fn texts_that_are_none(rt: HostRuntime) {
-    expect_read(&rt, rt.alloc(), other_texts());
+    expect_read(&rt, rt.alloc(), OTHER_TEXTS);
 }
