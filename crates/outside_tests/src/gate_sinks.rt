@@ -1,4 +1,5 @@
 //! Sinks that wait for each other.
+use crate::rows::expect;
 use office_doors::GateSink;
 use office_outside::{MemorySink, Plan, Sink, write_whole};
 use std::alloc::{AllocError, Global};
@@ -10,30 +11,29 @@ fn gates(alloc: Global) -> Result<(GateSink, GateSink), AllocError> {
     GateSink::pair(alloc, first, second)
 }
 
+/// Whether these bytes are written, and are then what the sink holds.
+fn is_written(mut sink: GateSink, bytes: &[u8]) -> bool {
+    write_whole(&mut sink, bytes).is_ok() && sink.bytes() == bytes
+}
+
 #[test]
 fn two_writes_at_once_are_done(rt: HostRuntime) {
-    let (mut first, mut second) = gates(rt.alloc()).expect(&rt, "memory");
+    let (first, second) = gates(rt.alloc()).expect(&rt, "memory");
     let (one, other) = join(
         &rt,
-        move || {
-            let end = write_whole(&mut first, b"one");
-            (end, first)
-        },
-        move || {
-            let end = write_whole(&mut second, b"other");
-            (end, second)
-        },
+        move || is_written(first, b"one"),
+        move || is_written(second, b"other"),
     );
-    assert!(rt; one.0.is_ok() && one.1.bytes() == b"one".as_slice());
-    assert!(rt; other.0.is_ok() && other.1.bytes() == b"other".as_slice());
+    expect(&rt, one, "one");
+    expect(&rt, other, "other");
 }
 
 #[test]
 fn a_write_alone_fails(rt: HostRuntime) {
     let (mut first, mut second) = gates(rt.alloc()).expect(&rt, "memory");
-    assert!(rt; first.write(b"one").is_err());
-    assert!(rt; first.faults() == 1);
-    assert!(rt; first.bytes().is_empty());
-    assert!(rt; second.write(b"other").is_ok());
-    assert!(rt; first.flush().is_ok());
+    expect(&rt, first.write(b"one").is_err(), "a write alone");
+    expect(&rt, first.faults() == 1, "its fault");
+    expect(&rt, first.bytes().is_empty(), "no bytes");
+    expect(&rt, second.write(b"other").is_ok(), "a write behind it");
+    expect(&rt, first.flush().is_ok(), "a flush");
 }

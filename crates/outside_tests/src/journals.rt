@@ -161,32 +161,24 @@ fn opened(rt: &(impl AllocGlobal + Abort), file: &[u8]) -> Option<Found> {
 }
 
 /// How many records were found of which sum, and where the file is damaged.
-fn found_text(alloc: Global, found: Option<Found>) -> Result<String, AllocError> {
-    match found {
-        Some(
-            Found {
-                records,
-                sum,
-                fault: None,
-                ..
-            },
-        ) => format!(in alloc; "{records} of {sum}"),
-        Some(
-            Found {
-                records,
-                sum,
-                fault: Some(ScanFault::Damaged { at }),
-                ..
-            },
-        ) => format!(in alloc; "{records} of {sum}, damaged at {at}"),
+fn found_text(alloc: Global, found: &Found) -> Result<String, AllocError> {
+    let (records, sum) = (found.records, found.sum);
+    match found.fault {
+        None => format!(in alloc; "{records} of {sum}"),
+        Some(ScanFault::Damaged { at }) => {
+            format!(in alloc; "{records} of {sum}, damaged at {at}")
+        }
         Some(_) => String::from_str(alloc, "not read"),
-        None => String::from_str(alloc, "no journal"),
     }
 }
 
 /// What a file of a row opens to.
 fn opened_text(rt: &(impl AllocGlobal + Abort), file: &[u8]) -> String {
-    found_text(rt.alloc(), opened(rt, file)).expect(rt, "memory")
+    match opened(rt, file) {
+        Some(found) => found_text(rt.alloc(), &found),
+        None => String::from_str(rt.alloc(), "no journal"),
+    }
+    .expect(rt, "memory")
 }
 
 /// The first bytes of the file of a tick.

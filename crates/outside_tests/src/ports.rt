@@ -1,4 +1,6 @@
-//! Doors at a port, with links of the same process.
+//! Doors at a port, with links of the same process. What is done at a door, and what is to come of
+//! it, are small functions, since the proof of a test grows with all that its calls promise.
+use crate::rows::expect;
 use office_doors::{Door, Doors, DoorsFault, TcpDoor, TcpDoors};
 use office_outside::{Failed, Sink, Source, write_whole};
 use std::alloc::Global;
@@ -9,6 +11,9 @@ use std::time::Clock;
 
 /// The room for a message in these tests.
 const ROOM: usize = 16;
+
+/// What is left of it behind two bytes.
+const ROOM_BEHIND_TWO: usize = 14;
 
 fn here(port: u16) -> SocketAddr {
     SocketAddr::V4(SocketAddrV4::new(Ipv4Addr::LOCALHOST, port))
@@ -28,6 +33,32 @@ where
 
 fn link_to<R: Net<Stream = TcpStream>>(rt: &R, port: u16) -> Option<TcpStream> {
     TcpStream::connect(rt, here(port)).ok()
+}
+
+/// Whether a link takes a text.
+fn sends(link: &mut TcpStream, text: &[u8]) -> bool {
+    link.write(text).ok() == Some(text.len())
+}
+
+/// Whether a link takes a text, behind which no more comes.
+fn sends_last(link: &mut TcpStream, text: &[u8]) -> bool {
+    sends(link, text) && link.shutdown(Shutdown::Write).is_ok()
+}
+
+/// Whether a link hears this text; none, where it has ended.
+fn hears(link: &mut TcpStream, text: &[u8]) -> bool {
+    let mut answer = [0; ROOM];
+    link.read(&mut answer).ok() == Some(text.len()) && answer.starts_with(text)
+}
+
+/// Whether a visit's input gives this text into the room of a message behind so many bytes; none,
+/// where it ends.
+fn gives<S: Source>(input: &mut S, behind: usize, text: &[u8]) -> bool {
+    let mut piece = [0; ROOM];
+    match piece.get_mut(behind..) {
+        Some(room) => input.read(room).ok() == Some(text.len()) && room.starts_with(text),
+        None => false,
+    }
 }
 
 /// Serves the next link as a session does that answers each message by its bytes: it reads into the
@@ -58,29 +89,29 @@ fn is_answered<R>(door: &mut TcpDoor<R>, link: &mut TcpStream, text: &[u8]) -> b
 where
     R: Net<Listener = TcpListener, Stream = TcpStream> + Clock + Wait + Copy + Send + Sync + Drop,
 {
-    let mut answer = [0; ROOM];
-    link.write(text).ok() == Some(text.len())
-        && echo_next(door) == Some(1)
-        && link.read(&mut answer).ok() == Some(text.len())
-        && answer.starts_with(text)
+    sends(link, text) && echo_next(door) == Some(1) && hears(link, text)
+}
+
+/// Whether the next visit gives a message and the end of its input, and takes an answer.
+fn is_visited<R>(door: &mut TcpDoor<R>, message: &[u8], answer: &[u8]) -> Option<bool>
+where
+    R: Net<Listener = TcpListener, Stream = TcpStream> + Clock + Wait + Copy + Send + Sync + Drop,
+{
+    let mut visit = door.next().ok().flatten()?;
+    let is_given = gives(&mut visit.input, 0, message) && gives(&mut visit.input, 0, b"");
+    let is_right = is_given && write_whole(&mut visit.output, answer).is_ok();
+    door.end(visit);
+    Some(is_right)
 }
 
 #[test]
 fn a_link_is_a_visit(rt: HostRuntime) {
     let (mut doors, mut door, port) = open_door(rt, rt.alloc()).expect(&rt, "a door");
     let mut link = link_to(&rt, port).expect(&rt, "a link");
-    assert!(rt; link.write(b"hello").ok() == Some(5));
-    assert!(rt; link.shutdown(Shutdown::Write).is_ok());
-    let mut visit = door.next().ok().flatten().expect(&rt, "a visit");
-    let mut piece = [0; ROOM];
-    assert!(rt; visit.input.read(&mut piece).ok() == Some(5));
-    assert!(rt; &piece[..5] == b"hello".as_slice());
-    assert!(rt; visit.input.read(&mut piece).ok() == Some(0));
-    assert!(rt; write_whole(&mut visit.output, b"good day").is_ok());
-    door.end(visit);
-    let mut answer = [0; ROOM];
-    assert!(rt; link.read(&mut answer).ok() == Some(8));
-    assert!(rt; answer.starts_with(b"good day"));
+    expect(&rt, sends_last(&mut link, b"hello"), "a message");
+    let is_right = is_visited(&mut door, b"hello", b"good day");
+    expect(&rt, is_right == Some(true), "a visit");
+    expect(&rt, hears(&mut link, b"good day"), "an answer");
     doors.close(door);
 }
 
@@ -90,32 +121,56 @@ fn links_that_wait_hold_no_worker(rt: HostRuntime) {
     let mut first = link_to(&rt, port).expect(&rt, "a link");
     let mut second = link_to(&rt, port).expect(&rt, "a link");
     let mut third = link_to(&rt, port).expect(&rt, "a link");
-    assert!(rt; is_answered(&mut door, &mut third, b"three"));
-    assert!(rt; is_answered(&mut door, &mut second, b"two"));
-    assert!(rt; is_answered(&mut door, &mut third, b"three again"));
-    assert!(rt; is_answered(&mut door, &mut first, b"one"));
+    expect(&rt, is_answered(&mut door, &mut third, b"three"), "three");
+    expect(&rt, is_answered(&mut door, &mut second, b"two"), "two");
+    let is_right = is_answered(&mut door, &mut third, b"three again");
+    expect(&rt, is_right, "three again");
+    expect(&rt, is_answered(&mut door, &mut first, b"one"), "one");
     for _ in 0..40 {
-        assert!(rt; is_answered(&mut door, &mut third, b"and again"));
+        let is_right = is_answered(&mut door, &mut third, b"and again");
+        expect(&rt, is_right, "and again");
     }
     doors.close(door);
+}
+
+/// Whether the next visit gives a message and the end of its input, and the link sends another one
+/// before the visit is given back.
+fn is_sent_before_the_end<R>(door: &mut TcpDoor<R>, link: &mut TcpStream) -> Option<bool>
+where
+    R: Net<Listener = TcpListener, Stream = TcpStream> + Clock + Wait + Copy + Send + Sync + Drop,
+{
+    let mut visit = door.next().ok().flatten()?;
+    let is_given = gives(&mut visit.input, 0, b"one") && gives(&mut visit.input, 0, b"");
+    let is_right = is_given && sends(link, b"two");
+    door.end(visit);
+    Some(is_right)
 }
 
 #[test]
 fn bytes_that_come_while_a_link_is_given_back_are_seen(rt: HostRuntime) {
     let (mut doors, mut door, port) = open_door(rt, rt.alloc()).expect(&rt, "a door");
     let mut link = link_to(&rt, port).expect(&rt, "a link");
-    assert!(rt; link.write(b"one").ok() == Some(3));
-    let mut visit = door.next().ok().flatten().expect(&rt, "a visit");
-    let mut piece = [0; ROOM];
-    assert!(rt; visit.input.read(&mut piece).ok() == Some(3));
-    assert!(rt; visit.input.read(&mut piece).ok() == Some(0));
-    assert!(rt; link.write(b"two").ok() == Some(3));
-    door.end(visit);
-    assert!(rt; echo_next(&mut door) == Some(1));
-    let mut answer = [0; ROOM];
-    assert!(rt; link.read(&mut answer).ok() == Some(3));
-    assert!(rt; &answer[..3] == b"two".as_slice());
+    expect(&rt, sends(&mut link, b"one"), "one");
+    let is_right = is_sent_before_the_end(&mut door, &mut link);
+    expect(&rt, is_right == Some(true), "two");
+    expect(&rt, echo_next(&mut door) == Some(1), "the next visit");
+    expect(&rt, hears(&mut link, b"two"), "its answer");
     doors.close(door);
+}
+
+/// Whether the next visit gives a byte, and one more that the link sends then, and fails where it
+/// waits for a third.
+fn is_cut<R>(door: &mut TcpDoor<R>, link: &mut TcpStream) -> Option<bool>
+where
+    R: Net<Listener = TcpListener, Stream = TcpStream> + Clock + Wait + Copy + Send + Sync + Drop,
+{
+    let mut visit = door.next().ok().flatten()?;
+    let is_begun = gives(&mut visit.input, 0, b"G") && sends(link, b"E");
+    let is_given = is_begun && gives(&mut visit.input, 1, b"E");
+    let mut room = [0; ROOM_BEHIND_TWO];
+    let is_right = is_given && visit.input.read(&mut room).is_err();
+    door.end(visit);
+    Some(is_right)
 }
 
 #[test]
@@ -123,18 +178,30 @@ fn a_message_that_stands_still_is_cut_where_no_worker_is_free(rt: HostRuntime) {
     let (mut doors, mut door, port) = open_door(rt, rt.alloc()).expect(&rt, "a door");
     let mut slow = link_to(&rt, port).expect(&rt, "a link");
     let mut honest = link_to(&rt, port).expect(&rt, "a link");
-    assert!(rt; slow.write(b"G").ok() == Some(1));
-    let mut visit = door.next().ok().flatten().expect(&rt, "a visit");
-    let mut piece = [0; ROOM];
-    assert!(rt; visit.input.read(&mut piece).ok() == Some(1));
-    assert!(rt; slow.write(b"E").ok() == Some(1));
-    assert!(rt; visit.input.read(&mut piece[1..]).ok() == Some(1));
-    assert!(rt; visit.input.read(&mut piece[2..]).is_err());
-    door.end(visit);
-    let mut answer = [0; ROOM];
-    assert!(rt; slow.read(&mut answer).ok() == Some(0));
-    assert!(rt; is_answered(&mut door, &mut honest, b"honest"));
+    expect(&rt, sends(&mut slow, b"G"), "a byte");
+    expect(&rt, is_cut(&mut door, &mut slow) == Some(true), "a cut");
+    expect(&rt, hears(&mut slow, b""), "an end");
+    expect(
+        &rt,
+        is_answered(&mut door, &mut honest, b"honest"),
+        "honest",
+    );
     doors.close(door);
+}
+
+/// The messages of the next visit that has some. A link that was ended before may come once more,
+/// without a message.
+fn echo_next_message<R>(door: &mut TcpDoor<R>) -> Option<usize>
+where
+    R: Net<Listener = TcpListener, Stream = TcpStream> + Clock + Wait + Copy + Send + Sync + Drop,
+{
+    let mut messages = 0;
+    for _ in 0..10 {
+        if messages == 0 {
+            messages = echo_next(door)?;
+        }
+    }
+    Some(messages)
 }
 
 #[test]
@@ -142,19 +209,9 @@ fn a_link_that_is_ended_leaves_its_place(rt: HostRuntime) {
     let (mut doors, mut door, port) = open_door(rt, rt.alloc()).expect(&rt, "a door");
     for _ in 0..1_200 {
         let mut link = link_to(&rt, port).expect(&rt, "a link");
-        assert!(rt; link.write(b"once").ok() == Some(4));
-        assert!(rt; link.shutdown(Shutdown::Write).is_ok());
-        let mut messages = 0;
-        for _ in 0..10 {
-            // One that was ended before may come once more, without a message.
-            if messages == 0 {
-                messages = echo_next(&mut door).expect(&rt, "a visit");
-            }
-        }
-        assert!(rt; messages == 1);
-        let mut answer = [0; ROOM];
-        assert!(rt; link.read(&mut answer).ok() == Some(4));
-        assert!(rt; answer.starts_with(b"once"));
+        expect(&rt, sends_last(&mut link, b"once"), "a message");
+        expect(&rt, echo_next_message(&mut door) == Some(1), "a visit");
+        expect(&rt, hears(&mut link, b"once"), "an answer");
     }
     doors.close(door);
 }
@@ -165,7 +222,8 @@ fn a_port_is_had_once(rt: HostRuntime) {
     let opened = doors.open(0, 1).ok().expect(&rt, "a port");
     let port = opened[0].port().ok().expect(&rt, "its number");
     let mut others = TcpDoors::new(rt, rt.alloc());
-    assert!(rt; others.open(port, 4).err() == Some(DoorsFault::Failed));
+    let fault = others.open(port, 4).err();
+    expect(&rt, fault == Some(DoorsFault::Failed), "the same port");
     for door in opened {
         doors.close(door);
     }

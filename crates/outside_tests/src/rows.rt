@@ -1,5 +1,7 @@
 //! What the tables of these tests have in common. A table is one text, since a proof of a test
 //! costs by its literals: a row has a text, ` => ` and what is wanted.
+use office_doors::{MemoryVisit, Visit};
+use office_outside::{MemoryClock, MemorySink, MemorySource, Plan};
 use std::alloc::{AllocError, Global};
 use std::process::Abort;
 
@@ -21,6 +23,15 @@ pub(crate) fn numbers_of(alloc: Global, text: &str) -> Result<Vec<u64>, AllocErr
         numbers.push(word.parse::<u64>().unwrap_or(u64::MAX))?;
     }
     Ok(numbers)
+}
+
+/// A visit whose input is these bytes, and whose calls succeed.
+pub(crate) fn visit_of(alloc: Global, bytes: Vec<u8>) -> MemoryVisit<MemorySink> {
+    Visit {
+        input: MemorySource::new(bytes, Plan::smooth(alloc)),
+        output: MemorySink::new(alloc, Plan::smooth(alloc)),
+        clock: MemoryClock::new(Vec::new(alloc)),
+    }
 }
 
 /// The number of a text, 0 where it has none.

@@ -1,8 +1,8 @@
 //! One worker over a counter of its own, which knows neither a desk nor an office.
-use crate::rows::{expect_row, numbers_of};
+use crate::rows::{expect_row, numbers_of, visit_of};
 use office_counter::Counter;
-use office_doors::{MemoryDoor, MemoryVisit, Visit};
-use office_outside::{MemoryClock, MemorySink, MemorySource, Plan};
+use office_doors::{MemoryDoor, MemoryVisit};
+use office_outside::MemorySink;
 use office_session::SessionKit;
 use record_form::{Outcome, Request};
 use std::alloc::{AllocError, Global};
@@ -49,11 +49,7 @@ fn visit(rt: &(impl AllocGlobal + Abort), requests: usize) -> MemoryVisit<Memory
             .extend_from_slice(b"GET /notices HTTP/1.1\n\n")
             .expect(rt, "memory");
     }
-    Visit {
-        input: MemorySource::new(bytes, Plan::smooth(rt.alloc())),
-        output: MemorySink::new(rt.alloc(), Plan::smooth(rt.alloc())),
-        clock: MemoryClock::new(Vec::new(rt.alloc())),
-    }
+    visit_of(rt.alloc(), bytes)
 }
 
 /// Visits with two requests, none and three.
