@@ -26,11 +26,33 @@ fn count_records(alloc: Global, text: &[u8]) -> Result<usize, AllocError>
     Ok(count)
 }
 
-/// Fields with a `+` before each.
-fn show_columns(columns: &[&[u8]], line: &mut Vec<u8>) -> Result<(), AllocError> {
-    for column in columns {
-        line.extend_from_slice(b"+")?;
-        line.extend_from_slice(column)?;
+/// A field behind a `+`.
+fn show_column(column: &[u8], line: &mut Vec<u8>) -> Result<(), AllocError> {
+    line.extend_from_slice(b"+")?;
+    line.extend_from_slice(column)
+}
+
+/// The five fields of a record with a `+` before each.
+fn show_five(fields: &Record, line: &mut Vec<u8>) -> Result<(), AllocError> {
+    if let Some((a, b, c, d, e)) = fields.five() {
+        show_column(a, line)?;
+        show_column(b, line)?;
+        show_column(c, line)?;
+        show_column(d, line)?;
+        show_column(e, line)?;
+    }
+    Ok(())
+}
+
+/// The six fields of a record with a `+` before each.
+fn show_six(fields: &Record, line: &mut Vec<u8>) -> Result<(), AllocError> {
+    if let Some((a, b, c, d, e, f)) = fields.six() {
+        show_column(a, line)?;
+        show_column(b, line)?;
+        show_column(c, line)?;
+        show_column(d, line)?;
+        show_column(e, line)?;
+        show_column(f, line)?;
     }
     Ok(())
 }
@@ -42,12 +64,8 @@ fn show_record(fields: &Record, line: &mut Vec<u8>) -> Result<(), AllocError> {
         line.extend_from_slice(fields.get(at).unwrap_or(b"no field"))?;
         line.extend_from_slice(b"]")?;
     }
-    if let Some((a, b, c, d, e)) = fields.five() {
-        show_columns(&[a, b, c, d, e], line)?;
-    }
-    if let Some((a, b, c, d, e, f)) = fields.six() {
-        show_columns(&[a, b, c, d, e, f], line)?;
-    }
+    show_five(fields, line)?;
+    show_six(fields, line)?;
     line.extend_from_slice(b"\n")
 }
 
