@@ -13,6 +13,7 @@ use record_form::{
 use sample_book::{Exclusion, Row};
 use slice_method::Amount;
 use std::alloc::{AllocError, Global};
+use std::mem;
 use std::process::Abort;
 use wire_replies::{Reply, bad_message, immediate_reply, render, write_reply};
 use wire_terms::{Allow, NoRequest};
@@ -37,12 +38,13 @@ fn line_of(alloc: Global, reply: &Reply) -> Result<String, AllocError> {
     format!(in alloc; "{status} {body}\n")
 }
 
-/// Appends a line with the status and the body of an outcome's reply. The outcome ends here, and
-/// nothing ends early for want of memory, so that its end is proved once.
+/// Appends a line with the status and the body of an outcome's reply. The reply's memory goes with
+/// the test's, and nothing ends early for want of memory: each end of it would be proved.
 fn note(rt: &(impl AllocGlobal + Abort), lines: &mut String, outcome: Outcome) {
     let reply = render(rt.alloc(), outcome);
     let line = line_of(rt.alloc(), &reply).expect(rt, "memory");
     lines.push_str(line.as_str()).expect(rt, "memory");
+    mem::forget(reply);
 }
 
 /// A line that begins with a blank goes on with the one before it.
@@ -580,6 +582,7 @@ Content-Length: 21\r\nConnection: close\r\n\r\n{\"error\":\"no_memory\"}";
 /// Writes a reply to an output that takes all.
 fn write(rt: &impl Abort, output: &mut MemorySink, reply: Reply, last: bool) {
     let done = write_reply(&reply, last, output).is_ok();
+    mem::forget(reply);
     expect(rt, done, "a reply is written");
 }
 
@@ -617,7 +620,9 @@ fn write_text(rt: &(impl AllocGlobal + Abort), size: usize) -> (bool, usize) {
     let outcome = Outcome::ObjectText(Bytes::from_vec(text));
     let failing = vec![in rt.alloc(); 1].expect(rt, "memory");
     let mut output = MemorySink::new(rt.alloc(), Plan::new(failing, Vec::new(rt.alloc())));
-    let done = write_reply(&render(rt.alloc(), outcome), false, &mut output).is_ok();
+    let reply = render(rt.alloc(), outcome);
+    let done = write_reply(&reply, false, &mut output).is_ok();
+    mem::forget(reply);
     (done, output.bytes().len())
 }
 

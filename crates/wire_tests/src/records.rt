@@ -6,7 +6,7 @@ use crate::requests::change_text;
 use record_form::{Entry, LimitName, Outcome, Refusal, YamlWord, read_record, write_record};
 use std::alloc::{AllocError, Global};
 use std::process::Abort;
-use std::str;
+use std::{mem, str};
 use yaml_terms::ProfileFault;
 
 /// The records of the nine commands at 500, and the commands in words, where `;` ends a line.
@@ -101,7 +101,9 @@ fn told(rt: &(impl AllocGlobal + Abort), row: &str) -> String {
         Some(entry) => {
             let again = write_record(rt.alloc(), &entry).expect(rt, "memory");
             expect(rt, again.as_bytes() == bytes.as_slice(), row);
-            entry_text(rt.alloc(), &entry).expect(rt, "memory")
+            let text = entry_text(rt.alloc(), &entry).expect(rt, "memory");
+            mem::forget(entry);
+            text
         }
         None => String::from_str(rt.alloc(), "none").expect(rt, "memory"),
     }
@@ -127,6 +129,7 @@ fn other_bytes_are_no_record(rt: HostRuntime) {
 /// The status and the word of an outcome that is no success.
 fn failure(rt: &impl Abort, outcome: Outcome, wanted: Option<(u16, &'static str)>) {
     expect(rt, outcome.failure() == wanted, "a failure");
+    mem::forget(outcome);
 }
 
 #[test]

@@ -9,7 +9,7 @@ use sample_book::Exclusion;
 use slice_method::Amount;
 use std::alloc::{AllocError, Global};
 use std::process::Abort;
-use std::str;
+use std::{mem, str};
 use wire_routes::{Routed, Routes};
 
 const ROUTES: &str = "\
@@ -319,7 +319,9 @@ fn answer(rt: &(impl AllocGlobal + Abort), routes: &Routes, start: &str, body: &
     match read_request(&bytes) {
         Heard::Whole(message, _) => {
             let routed = routes.request(rt.alloc(), &message, &bytes);
-            routed_text(rt.alloc(), &routed).expect(rt, "memory")
+            let text = routed_text(rt.alloc(), &routed).expect(rt, "memory");
+            mem::forget(routed);
+            text
         }
         _ => String::from_str(rt.alloc(), "no message").expect(rt, "memory"),
     }
@@ -334,6 +336,7 @@ fn expect_answers(rt: &(impl AllocGlobal + Abort), front: &str, table: &str) {
         let (body, wanted) = rest.split_once(" ~ ").unwrap_or(("", "no line"));
         expect_text(rt, line, &answer(rt, &routes, start, body), wanted);
     }
+    mem::forget(routes);
 }
 
 #[test]
