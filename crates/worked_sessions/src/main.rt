@@ -3,13 +3,16 @@
 //! Promises only to end well: what comes out is compared with the answers worked out by hand.
 #![tactic(auto)]
 
+mod draft;
 mod file_calls;
+mod kept;
 mod mixtures;
 mod playing;
 mod sampling;
 mod series;
 mod show;
 mod stage;
+mod told;
 mod trials;
 mod visitors;
 
@@ -43,9 +46,8 @@ impl From<Failed> for Fault {
 /// The most reads that a script takes.
 const MOST_PIECES: u32 = 65_536;
 
-/// The whole input.
-fn read_script<S: Source>(alloc: Global, input: &mut S) -> Result<String, Fault> {
-    let mut bytes: Vec<u8> = Vec::new(alloc);
+/// Appends all that an input has.
+fn read_all<S: Source>(input: &mut S, bytes: &mut Vec<u8>) -> Result<(), Fault> {
     let mut piece = [0u8; 4096];
     for _ in 0..MOST_PIECES {
         let count = input.read(&mut piece)?;
@@ -54,25 +56,42 @@ fn read_script<S: Source>(alloc: Global, input: &mut S) -> Result<String, Fault>
             break;
         }
     }
+    Ok(())
+}
+
+/// The whole input.
+fn read_script<S: Source>(alloc: Global, input: &mut S) -> Result<String, Fault> {
+    let mut bytes: Vec<u8> = Vec::new(alloc);
+    read_all(input, &mut bytes)?;
     String::from_utf8(bytes).map_err(|_| Fault::Text)
 }
 
-/// Plays a script, and gives what comes of it. A line `files` stands for calls on a real file.
+/// Plays the lines of a script. Lines behind `files` stand for calls on a real file.
+fn play_lines(
+    stage: &mut Stage,
+    rt: &(impl AllocGlobal + Wait + Threads + Sync),
+    host: HostRuntime,
+    script: &str,
+) -> Result<(), AllocError> {
+    for line in script.lines() {
+        if let Some(text) = line.strip_prefix("files ") {
+            stage.call_files(host, text)?;
+        } else {
+            stage.take_line(rt, line)?;
+        }
+    }
+    stage.end_request()
+}
+
+/// Plays a script, and gives what comes of it.
 fn play(
     rt: &(impl AllocGlobal + Wait + Threads + Sync),
     host: HostRuntime,
     script: &str,
 ) -> Result<String, AllocError> {
     let mut stage = Stage::new(rt.alloc());
-    for line in script.lines() {
-        let taken = if line == "files" {
-            stage.call_files(host)
-        } else {
-            stage.take_line(rt, line)
-        };
-        taken?;
-    }
-    stage.end()
+    play_lines(&mut stage, rt, host, script)?;
+    Ok(stage.into_text())
 }
 
 fn main(rt: HostRuntime) -> ExitCode {

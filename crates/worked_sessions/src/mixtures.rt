@@ -19,21 +19,45 @@ pub struct Torn {
 
 /// The files that end at one place: the old bytes, those that were written, and where they differ.
 #[derive(Drop)]
-pub struct Mixtures {
+pub struct Mixtures<'a> {
     old: Vec<u8>,
-    new: Vec<u8>,
+    new: &'a [u8],
     places: Vec<usize>,
 }
 
-/// Makes the write of a call.
-fn make(file: &mut Vec<u8>, at: usize, bytes: &[u8]) -> Result<(), AllocError> {
-    let end = at.saturating_add(bytes.len());
-    if file.len() < end {
-        file.resize(end, 0)?;
+/// Appends a byte up to this end.
+fn pad(file: &mut Vec<u8>, end: usize, fill: u8) -> Result<(), AllocError> {
+    for _ in file.len()..end {
+        file.push(fill)?;
     }
-    for (place, byte) in bytes.iter().enumerate() {
-        if let Some(old) = file.get_mut(at.saturating_add(place)) {
-            *old = *byte;
+    Ok(())
+}
+
+/// Puts bytes at a place, and what stood behind them.
+fn put(file: &mut Vec<u8>, at: usize, bytes: &[u8], behind: &[u8]) -> Result<(), AllocError> {
+    file.truncate(at);
+    pad(file, at, 0)?;
+    file.extend_from_slice(bytes)?;
+    file.extend_from_slice(behind)
+}
+
+/// Makes the write of a call.
+fn make(alloc: Global, file: &mut Vec<u8>, at: usize, bytes: &[u8]) -> Result<(), AllocError> {
+    let end = at.saturating_add(bytes.len());
+    let behind = file.get(end..).unwrap_or(&[]).to_vec(alloc)?;
+    put(file, at, bytes, &behind)
+}
+
+/// Makes the writes of these calls that were done.
+fn make_all(alloc: Global, file: &mut Vec<u8>, calls: &[DiskCall]) -> Result<(), AllocError> {
+    for call in calls.iter() {
+        if let DiskCall::Wrote {
+            at,
+            bytes,
+            done: true,
+        } = call
+        {
+            make(alloc, file, *at as usize, bytes)?;
         }
     }
     Ok(())
@@ -42,17 +66,24 @@ fn make(file: &mut Vec<u8>, at: usize, bytes: &[u8]) -> Result<(), AllocError> {
 /// The file as it reads after these calls.
 fn written(alloc: Global, first: &[u8], calls: &[DiskCall]) -> Result<Vec<u8>, AllocError> {
     let mut file = first.to_vec(alloc)?;
-    for call in calls.iter() {
-        if let DiskCall::Wrote {
-            at,
-            bytes,
-            done: true,
-        } = call
-        {
-            make(&mut file, *at as usize, bytes)?;
+    make_all(alloc, &mut file, calls)?;
+    Ok(file)
+}
+
+/// A file that is as long as the end, with this byte behind what it had.
+fn filled(alloc: Global, file: &[u8], end: usize, fill: u8) -> Result<Vec<u8>, AllocError> {
+    let mut file = file.to_vec(alloc)?;
+    pad(&mut file, end, fill)?;
+    Ok(file)
+}
+
+/// Copies the byte at a place.
+fn copy_at(file: &mut [u8], new: &[u8], place: usize) {
+    if let Some(byte) = new.get(place) {
+        if let Some(old) = file.get_mut(place) {
+            *old = *byte;
         }
     }
-    Ok(file)
 }
 
 /// The places at which two files differ.
@@ -87,19 +118,18 @@ impl Torn {
     }
 
     /// The mixtures that end there; where nothing was written behind the old end stands this byte.
-    pub fn ending(&self, alloc: Global, end: usize, fill: u8) -> Result<Mixtures, AllocError> {
-        let mut old = self.old.to_vec(alloc)?;
-        old.resize(end, fill)?;
+    pub fn ending(&self, alloc: Global, end: usize, fill: u8) -> Result<Mixtures<'_>, AllocError> {
+        let old = filled(alloc, &self.old, end, fill)?;
         let places = places_between(alloc, &old, &self.new)?;
         Ok(Mixtures {
             old,
-            new: self.new.to_vec(alloc)?,
+            new: &self.new,
             places,
         })
     }
 }
 
-impl Mixtures {
+impl Mixtures<'_> {
     /// How many there are, where they aren't too many.
     pub fn count(&self) -> Option<u32> {
         if self.places.len() > MOST_PLACES {
@@ -117,12 +147,8 @@ impl Mixtures {
         let mut file = self.old.to_vec(alloc)?;
         let mut bits = number;
         for place in self.places.iter() {
-            if let (Some(old), Some(byte), 1) = (
-                file.get_mut(*place),
-                self.new.get(*place),
-                bits % 2,
-            ) {
-                *old = *byte;
+            if bits % 2 == 1 {
+                copy_at(&mut file, self.new, *place);
             }
             bits /= 2;
         }

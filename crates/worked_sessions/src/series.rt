@@ -2,6 +2,17 @@
 
 use std::alloc::{AllocError, Global};
 
+/// Appends a text in which `@` stands for these digits, and `\` for a line's end.
+fn push_with(out: &mut String, text: &str, digits: &str) -> Result<(), AllocError> {
+    for (place, part) in text.split("@").enumerate() {
+        if place > 0 {
+            out.push_str(digits)?;
+        }
+        push_lines(out, part, "\n")?;
+    }
+    Ok(())
+}
+
 /// Appends a text in which `@` stands for the number, and `\` for a line's end.
 fn push_numbered(
     alloc: Global,
@@ -10,24 +21,35 @@ fn push_numbered(
     number: u32,
 ) -> Result<(), AllocError> {
     let digits = format!(in alloc; "{number}")?;
-    for (place, part) in text.split("@").enumerate() {
-        if place > 0 {
-            out.push_str(digits.as_str())?;
-        }
-        push_lines(out, part)?;
-    }
-    Ok(())
+    push_with(out, text, digits.as_str())
 }
 
-/// Appends a text in which `\` stands for a line's end.
-fn push_lines(out: &mut String, text: &str) -> Result<(), AllocError> {
-    for (place, part) in text.split("\\").enumerate() {
+/// A text in which `@` stands for the number, and `\` for a line's end.
+fn numbered(alloc: Global, text: &str, number: u32) -> Result<String, AllocError> {
+    let mut out = String::new(alloc);
+    push_numbered(alloc, &mut out, text, number)?;
+    Ok(out)
+}
+
+/// Appends a text with another one in the place of each mark.
+pub fn push_replaced(
+    out: &mut String,
+    text: &str,
+    mark: &str,
+    other: &str,
+) -> Result<(), AllocError> {
+    for (place, part) in text.split(mark).enumerate() {
         if place > 0 {
-            out.push('\n')?;
+            out.push_str(other)?;
         }
         out.push_str(part)?;
     }
     Ok(())
+}
+
+/// Appends a text in which `\` stands for a line's end, which is this one.
+pub fn push_lines(out: &mut String, text: &str, end: &str) -> Result<(), AllocError> {
+    push_replaced(out, text, "\\", end)
 }
 
 /// Appends a line for each of so many numbers from the first on, as in `1 3 - name-@`.
@@ -54,10 +76,23 @@ pub fn push_request(
     body: &str,
 ) -> Result<(), AllocError> {
     let length = body.len();
-    input.extend_from_slice(request.as_bytes())?;
-    let head = format!(in alloc; " HTTP/1.1\r\nContent-Length: {length}\r\n\r\n")?;
-    input.extend_from_slice(head.as_bytes())?;
-    input.extend_from_slice(body.as_bytes())
+    let message = format!(in alloc;
+        "{request} HTTP/1.1\r\nContent-Length: {length}\r\n\r\n{body}"
+    )?;
+    input.extend_from_slice(message.as_bytes())
+}
+
+/// Appends a request with the number in the place of each `@`.
+fn push_numbered_request(
+    alloc: Global,
+    input: &mut Vec<u8>,
+    request: &str,
+    body: &str,
+    number: u32,
+) -> Result<(), AllocError> {
+    let line = numbered(alloc, request, number)?;
+    let text = numbered(alloc, body, number)?;
+    push_request(alloc, input, line.as_str(), text.as_str())
 }
 
 /// Appends a request for each of so many numbers from the first on, in the place of each `@`.
@@ -70,12 +105,7 @@ pub fn push_requests(
 ) -> Result<(), AllocError> {
     let (first, count) = numbers;
     for place in 0..count {
-        let number = first.saturating_add(place);
-        let mut line = String::new(alloc);
-        push_numbered(alloc, &mut line, request, number)?;
-        let mut text = String::new(alloc);
-        push_numbered(alloc, &mut text, body, number)?;
-        push_request(alloc, input, line.as_str(), text.as_str())?;
+        push_numbered_request(alloc, input, request, body, first.saturating_add(place))?;
     }
     Ok(())
 }
