@@ -4,7 +4,7 @@ use crate::Visit;
 use crate::link::share_link;
 use crate::link_sink::LinkSink;
 use crate::link_source::LinkSource;
-use crate::places::{Heard, Places, TcpVisit};
+use crate::places::{EVENTS, Heard, Places, TcpVisit};
 use crate::tally::Tally;
 use mio::unix::SourceFd;
 use mio::{Events, Interest, Poll, Registry, Token};
@@ -25,9 +25,6 @@ const PAUSE_MILLIS: u64 = 100;
 
 /// How many milliseconds a look waits at most, and how often links are closed that wait too long.
 const ROUND_MILLIS: u64 = 5_000;
-
-/// How many events a look takes at once.
-const EVENTS: usize = 64;
 
 /// The listener's name in the events; links have the numbers of their places.
 const LISTENER: usize = usize::MAX;
@@ -64,8 +61,6 @@ fn cause_of(error: &io::Error) -> Taken {
 struct Lead {
     poll: Poll,
     events: Events,
-    /// The places of which the set told, and that nobody took yet.
-    ready: Vec<usize>,
     last_round: Option<Instant>,
     failures: u32,
 }
@@ -114,7 +109,7 @@ impl<R: time::Clock + Wait + Copy + Drop> Hall<R> {
             let Token(at) = event.token();
             if at == LISTENER {
                 is_asked = true;
-            } else if self.has_waiter(&mut places, at) && lead.ready.push(at).is_err() {
+            } else if self.has_waiter(&mut places, at) && places.add_ready(at).is_err() {
                 return Err(Failed);
             }
         }
@@ -179,7 +174,7 @@ impl<R: time::Clock + Wait + Copy + Drop> Hall<R> {
                 .reregister(&mut SourceFd(&fd), Token(LISTENER), Interest::READABLE);
         }
         if self.wait_for(rt, lead, PAUSE_MILLIS)? {
-            self.places.lock(&rt).close_oldest(&lead.ready);
+            self.places.lock(&rt).close_oldest();
         }
         Ok(())
     }
@@ -200,20 +195,22 @@ impl<R: time::Clock + Wait + Copy + Drop> Hall<R> {
         Ok(())
     }
 
-    /// Takes a place of which the set told.
-    fn take_ready(&self, lead: &mut Lead) -> Option<usize> {
-        let at = lead.ready.pop()?;
-        self.tally.set_ready(lead.ready.len());
-        Some(at)
+    /// Takes a link of which the set told.
+    fn take_ready(&self, rt: R) -> Option<TcpVisit<R>> {
+        let mut places = self.places.lock(&rt);
+        let taken = places.take_ready();
+        self.tally.set_ready(places.ready_count());
+        taken
     }
 
-    /// Waits for a place of which the set tells, where one comes. Once it failed it fails for ever,
-    /// so that no worker goes on alone.
-    fn next_told(&self, rt: R) -> Result<Option<usize>, Failed> {
+    /// Looks, and takes a link that is found. Once it failed for too long it fails for ever, so
+    /// that no worker goes on alone.
+    fn lead(&self, rt: R) -> Result<Option<TcpVisit<R>>, Failed> {
         let mut guard = self.lead.lock(&rt);
         let lead = &mut *guard;
-        if let Some(at) = self.take_ready(lead) {
-            return Ok(Some(at));
+        // who led before may have left some
+        if let Some(visit) = self.take_ready(rt) {
+            return Ok(Some(visit));
         }
         if lead.failures >= TRIES {
             return Err(Failed);
@@ -224,20 +221,28 @@ impl<R: time::Clock + Wait + Copy + Drop> Hall<R> {
             lead.failures = lead.failures.saturating_add(1);
             thread::sleep(&rt, Duration::from_millis(PAUSE_MILLIS));
         }
-        let told = lead.ready.pop();
-        self.tally.note_look(&rt, lead.ready.len());
-        Ok(told)
+        let mut places = self.places.lock(&rt);
+        let taken = places.take_ready();
+        self.tally.note_look(&rt, places.ready_count());
+        Ok(taken)
+    }
+
+    /// Waits for a link that has bytes, where one comes.
+    fn next_waiter(&self, rt: R) -> Result<Option<TcpVisit<R>>, Failed> {
+        if self.tally.has_ready() {
+            if let Some(visit) = self.take_ready(rt) {
+                return Ok(Some(visit));
+            }
+        }
+        self.lead(rt)
     }
 
     /// Waits for a link that has bytes.
     fn await_link(&self, rt: R) -> Result<TcpVisit<R>, Failed> {
         for _ in 0..u64::MAX {
-            if let Some(at) = self.next_told(rt)? {
-                let taken = self.places.lock(&rt).take(at);
-                if let Some(mut visit) = taken {
-                    visit.input.begin();
-                    return Ok(visit);
-                }
+            if let Some(mut visit) = self.next_waiter(rt)? {
+                visit.input.begin();
+                return Ok(visit);
             }
         }
         Err(Failed)
@@ -251,21 +256,32 @@ impl<R: time::Clock + Wait + Copy + Drop> Hall<R> {
         next
     }
 
-    /// Lets a link wait. It is at its place before the set is asked to tell of it.
+    /// Lets a link wait. It is at its place before the set is asked to tell of it. A set that tells
+    /// of it already is asked again when others may take it: it stays open meanwhile, so that no
+    /// other link has its descriptor.
     fn park(&self, rt: R, visit: TcpVisit<R>, now: Instant) {
         let at = visit.input.place();
-        let fd = visit.input.raw_fd();
+        let Some(link) = visit.input.share_link() else {
+            self.places.lock(&rt).free(at);
+            return;
+        };
+        let fd = link.as_raw_fd();
         let mut places = self.places.lock(&rt);
         let is_told = places.is_told(at);
         places.put(at, visit, now);
-        let registered = if is_told {
-            self.registry
-                .reregister(&mut SourceFd(&fd), Token(at), Interest::READABLE)
-        } else {
-            self.registry
-                .register(&mut SourceFd(&fd), Token(at), Interest::READABLE)
-        };
-        if registered.is_err() {
+        if is_told {
+            drop(places);
+            // it fails where another took the link meanwhile, and lets it wait anew
+            let _ = self
+                .registry
+                .reregister(&mut SourceFd(&fd), Token(at), Interest::READABLE);
+            return;
+        }
+        if self
+            .registry
+            .register(&mut SourceFd(&fd), Token(at), Interest::READABLE)
+            .is_err()
+        {
             places.free(at);
         }
     }
@@ -295,7 +311,6 @@ pub(crate) fn make_hall<R: time::Clock + Copy + Drop>(
     let lead = Lead {
         poll,
         events: Events::with_capacity(alloc, EVENTS)?,
-        ready: Vec::with_capacity(alloc, EVENTS)?,
         last_round: None,
         failures: 0,
     };

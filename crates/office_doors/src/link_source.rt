@@ -168,6 +168,11 @@ impl<R: Clock + Drop> LinkSource<R> {
         self.ear.link.as_raw_fd()
     }
 
+    /// The link, for one who needs it open for longer than this source may last.
+    pub(crate) fn share_link(&self) -> Option<Arc<TcpStream>> {
+        Arc::try_clone(&self.ear.link).ok()
+    }
+
     /// Ends a link: says that no more comes, and takes what the client still sends, for a while. A
     /// link whose input failed isn't waited for.
     pub(crate) fn linger(&self) -> Option<()> {

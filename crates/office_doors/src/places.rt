@@ -14,6 +14,9 @@ use std::time::{Clock, Duration, Instant};
 /// spare. Above it the link is closed that waits for the longest time.
 const MOST_LINKS: usize = 1_000;
 
+/// How many places the set tells of at once.
+pub(crate) const EVENTS: usize = 64;
+
 /// How many seconds a link may wait: as long as nginx keeps one that it doesn't use, and some more.
 const IDLE_SECONDS: u64 = 75;
 
@@ -57,6 +60,8 @@ pub(crate) enum Heard {
 pub(crate) struct Places<R: Clock + Drop> {
     places: Vec<Place<R>>,
     waiting: usize,
+    /// The places of which the set told, and that nobody took yet.
+    ready: Vec<usize>,
 }
 
 impl<R: Clock + Drop> Places<R> {
@@ -65,7 +70,11 @@ impl<R: Clock + Drop> Places<R> {
         for _ in 0..MOST_LINKS {
             places.push(Place::Free)?;
         }
-        Ok(Places { places, waiting: 0 })
+        Ok(Places {
+            places,
+            waiting: 0,
+            ready: Vec::with_capacity(alloc, EVENTS)?,
+        })
     }
 
     /// Whether there is no link.
@@ -94,7 +103,7 @@ impl<R: Clock + Drop> Places<R> {
     /// time.
     pub(crate) fn take_place(&mut self, fd: RawFd) -> Option<usize> {
         if self.free_place().is_none() {
-            self.close_oldest(&[]);
+            self.close_oldest();
         }
         let at = self.free_place()?;
         if at < self.places.len() {
@@ -104,7 +113,7 @@ impl<R: Clock + Drop> Places<R> {
     }
 
     /// Takes the link that waits at a place.
-    pub(crate) fn take(&mut self, at: usize) -> Option<TcpVisit<R>> {
+    fn take(&mut self, at: usize) -> Option<TcpVisit<R>> {
         let place = self.places.get_mut(at)?;
         match mem::replace(place, Place::Free) {
             Place::Free => None,
@@ -121,6 +130,27 @@ impl<R: Clock + Drop> Places<R> {
                 Some(waiter.visit)
             }
         }
+    }
+
+    /// Takes a link of which the set told.
+    pub(crate) fn take_ready(&mut self) -> Option<TcpVisit<R>> {
+        for _ in 0..self.ready.len() {
+            let at = self.ready.pop()?;
+            if let Some(visit) = self.take(at) {
+                return Some(visit);
+            }
+        }
+        None
+    }
+
+    /// At how many places links wait to be taken.
+    pub(crate) fn ready_count(&self) -> usize {
+        self.ready.len()
+    }
+
+    /// Notes that the link of a place waits to be taken.
+    pub(crate) fn add_ready(&mut self, at: usize) -> Result<(), AllocError> {
+        Ok(self.ready.push(at)?)
     }
 
     /// Hears that the set tells of a place.
@@ -163,8 +193,8 @@ impl<R: Clock + Drop> Places<R> {
         }
     }
 
-    /// Closes the link that waits for the longest time, but for those at these places.
-    pub(crate) fn close_oldest(&mut self, but: &[usize]) {
+    /// Closes the link that waits for the longest time, but for those of which the set told.
+    pub(crate) fn close_oldest(&mut self) {
         let mut oldest = None;
         for (at, place) in self.places.iter().enumerate() {
             if let Place::Waits(waiter) = place {
@@ -172,7 +202,7 @@ impl<R: Clock + Drop> Places<R> {
                     None => true,
                     Some((_, since)) => waiter.since < since,
                 };
-                if is_older && !but.contains(&at) {
+                if is_older && !self.ready.contains(&at) {
                     oldest = Some((at, waiter.since));
                 }
             }

@@ -11,7 +11,7 @@ const HURRY_MILLIS: u64 = 2_000;
 
 /// How many milliseconds busy links may hold all workers before one of these looks whether others
 /// wait: nobody else does.
-const LOOK_MILLIS: usize = 3;
+const LOOK_MILLIS: usize = 8;
 
 /// How many workers are free, and what is known of links that wait for one.
 #[derive(Drop)]
@@ -51,6 +51,11 @@ impl Tally {
         self.ready_links.store(count, Ordering::SeqCst);
     }
 
+    /// Whether the set told of links that nobody took yet.
+    pub(crate) fn has_ready(&self) -> bool {
+        self.ready_links.load(Ordering::SeqCst) > 0
+    }
+
     fn millis<R: Clock>(&self, rt: &R) -> usize {
         match self.begun.elapsed(rt) {
             Ok(spent) => usize::try_from(spent.as_millis()).unwrap_or(usize::MAX),
@@ -71,15 +76,16 @@ impl Tally {
         if self.free_workers.load(Ordering::SeqCst) > 0 {
             return false;
         }
-        if self.ready_links.load(Ordering::SeqCst) > 0 || self.found_many.load(Ordering::SeqCst) {
+        if self.has_ready() || self.found_many.load(Ordering::SeqCst) {
             return true;
         }
         let now = self.millis(rt);
-        let is_due = now.saturating_sub(self.looked_at.load(Ordering::SeqCst)) >= LOOK_MILLIS;
-        if is_due {
-            self.looked_at.store(now, Ordering::SeqCst);
-        }
-        is_due
+        let last = self.looked_at.load(Ordering::SeqCst);
+        now.saturating_sub(last) >= LOOK_MILLIS
+            && self
+                .looked_at
+                .compare_exchange(last, now, Ordering::SeqCst, Ordering::SeqCst)
+                .is_ok()
     }
 
     /// How long a message may take now, and an answer.
