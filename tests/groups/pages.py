@@ -1,4 +1,4 @@
-"""The pages with commands: each `console` block of README.md and docs/, from the top of a page to its end, in one folder.
+"""The pages with commands: each `console` block of README.md, docs/ and tests/pages/, from the top of a page to its end, in one folder.
 
 A line behind `$ ` is a command, lines behind `> ` go on with it, and all other lines are what it prints, byte for byte.
 The folder has the program and the examples; a page's port 8080 is a free one.
@@ -87,7 +87,7 @@ def try_page(report: Report, path: Path) -> None:
 
 
 def run(report: Report) -> None:
-    for path in [TOP / "README.md", *sorted((TOP / "docs").glob("*.md"))]:
+    for path in [TOP / "README.md", *sorted((TOP / "docs").glob("*.md")), *sorted((TOP / "tests/pages").glob("*.md"))]:
         if commands(path.read_text()):
             with report.case(path.relative_to(TOP).as_posix()):
                 try_page(report, path)
