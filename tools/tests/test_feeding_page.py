@@ -4,7 +4,6 @@ from __future__ import annotations
 
 import json
 import os
-import re
 import signal
 import subprocess
 import tempfile
@@ -101,18 +100,6 @@ class PageTest(unittest.TestCase):
         finally:
             os.killpg(shell.pid, signal.SIGKILL)
         return [text.strip() for text in output.split(mark)]
-
-    def test_table_of_capacity(self) -> None:
-        rows = re.findall(
-            r"^\| (\d+) \| (\d+) \| (\d+) \| ([\d,]+) \| ([\d,]+) \|$",
-            PAGE.read_text(),
-            re.MULTILINE,
-        )
-        self.assertGreater(len(rows), 6)
-        for row in rows:
-            indicators, sources, an_hour, cells, days = (int(n.replace(",", "")) for n in row)
-            self.assertEqual(cells, indicators * sources * an_hour * 24)
-            self.assertEqual(days, 2_000_000 // cells)
 
 
 if __name__ == "__main__":
