@@ -9,7 +9,8 @@ use Rattle.std.proofs.lemmas.Nat.{div_below}
 use Rattle.exact_fraction.specs.declared.leaf.Leaf.{Leaf}
 use Rattle.slo_terms.specs.Sums.{leaves_over, most_events, sum_over}
 use Rattle.slo_terms.proofs.RangeLemmas.{sum_over-apart, sum_over-changed, sum_over-like}
-use Rattle.slo_terms.proofs.RangeLemmas.{sum_over-none, sum_over-part, sum_over-split}
+use Rattle.slo_terms.proofs.RangeLemmas.{sum_over-next, sum_over-none, sum_over-part}
+use Rattle.slo_terms.proofs.RangeLemmas.{sum_over-split, sum_over-start}
 use Rattle.slo_terms.proofs.RangeLemmas.{sum_over-term, sum_over-within}
 use Rattle.sum_pages.specs.Pages.{IsPage, MayExchange, new_total, leaf_in, no_leaf}
 
@@ -298,3 +299,44 @@ IsPage-none per_hour = record {
         → leaves_over (leaf_in (replicate (24 * per_hour) no_leaf)) first count ≡ no_leaf
     nothing first count = leaves_over-nothing (leaf_in (replicate (24 * per_hour) no_leaf)) first
         count (λ k a b. blank (24 * per_hour) k)
+
+-- no leaf yet
+pub leaves-none : (f : ℕ → Leaf) (from : ℕ) → no_leaf ≡ leaves_over f from (from - from)
+leaves-none f from = λ i. record {
+  num = sym (sum_over-start (λ k. (f k).num) from) i;
+  den = sym (sum_over-start (λ k. (f k).den) from) i;
+}
+
+-- a leaf more
+pub leaves-next : (f : ℕ → Leaf) (from at : ℕ) → from ≤ at →
+    ((leaves_over f from (at + 1 - from)).num ≡ (leaves_over f from (at - from)).num + (f at).num)
+    × ((leaves_over f from (at + 1 - from)).den ≡ (leaves_over f from (at - from)).den + (f at).den)
+leaves-next f from at le = (
+  sum_over-next (λ k. (f k).num) from at le,
+  sum_over-next (λ k. (f k).den) from at le,
+)
+
+-- some leaves of a page: a part of a whole, which is small
+pub leaves-few : (leaves hours : List Leaf) (total : Leaf) → IsPage leaves hours total →
+    (from to : ℕ) → from ≤ to → to ≤ length leaves →
+    ((leaves_over (leaf_in leaves) from (to - from)).num
+    ≤ (leaves_over (leaf_in leaves) from (to - from)).den)
+    × ((leaves_over (leaf_in leaves) from (to - from)).den ≤ most_events)
+leaves-few leaves hours total page from to le within = (
+  sum_over-part (λ k. (leaf_in leaves k).num) (λ k. (leaf_in leaves k).den) page.parts from
+      (to - from),
+  omega (
+    arith,
+    sum_over-split (λ k. (leaf_in leaves k).den) 0 from (to - from),
+    ap (λ k. sum_over (λ k. (leaf_in leaves k).den) k (to - from)) (same from),
+    ap (sum_over (λ k. (leaf_in leaves k).den) 0) (all from to le),
+    sum_over-within (λ k. (leaf_in leaves k).den) 0 to (length leaves) within,
+    page.few,
+  ),
+)
+  where
+    same : (n : ℕ) → 0 + n ≡ n
+    same n = omega arith
+
+    all : (from to : ℕ) → from ≤ to → from + (to - from) ≡ to
+    all from to le = omega arith

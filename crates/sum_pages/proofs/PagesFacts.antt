@@ -1,7 +1,7 @@
 -- The pages of all days, read and changed.
-use Rattle.std.proofs.Common.{◌≡◌, ◌≢◌, ◌⊎◌, ℕ, ◌+◌, ◌*◌, ◌/◌, ◌%◌, ◌≤◌, ◌<◌, nat_eq, true, false}
+use Rattle.std.proofs.Common.{◌≡◌, ◌≢◌, ◌⊎◌, ℕ, ◌+◌, ◌-◌, ◌*◌, ◌/◌, ◌%◌, ◌≤◌, ◌<◌, nat_eq, true}
 use Rattle.std.proofs.Common.{inl, inr, IsTrue, All, List, [], ◌∷◌, ◌++◌, length, replicate, refl}
-use Rattle.std.proofs.Common.{sym, ap, subst, ◌∙◌, arith, slice_set}
+use Rattle.std.proofs.Common.{false, sym, ap, subst, ◌∙◌, arith, slice_set}
 use Rattle.std.specs.Int.{◌∣◌}
 use Rattle.std.specs.Map.{set_value, values_of}
 use Rattle.std.proofs.Math.Nat.{div-add-mod', mul-le-mul_right, pos_of_dvd_of_pos}
@@ -9,7 +9,7 @@ use Rattle.std.proofs.lemmas.Bool.Decides.{eqb_tells}
 use Rattle.std.proofs.lemmas.List.{length-set, length-replicate}
 use Rattle.std.proofs.lemmas.List.Elements.{All-push}
 use Rattle.std.proofs.lemmas.Map.Views.{All-values-set_value}
-use Rattle.std.proofs.lemmas.Nat.{div-mul-add, mod-mul-add, mod_below}
+use Rattle.std.proofs.lemmas.Nat.{div-mul-add, div_below, mod-mul-add, mod_below}
 use Rattle.std.proofs.lemmas.Nat.Gcd.{le_of_dvd}
 use Rattle.exact_fraction.specs.declared.leaf.Leaf.{Leaf}
 use Rattle.slo_terms.specs.Sums.{AreFew, leaves_over, most_events, sum_over}
@@ -121,6 +121,65 @@ day-nothing pages day none =
     nothing-moved (leaf_at pages) (day * slots_a_day pages) (slots_a_day pages)
     (λ i lt. leaf-here (slots_a_day pages) pages.days day i lt
     ∙ ap (λ leaves. leaf_in leaves i) none)
+
+-- the slots of an hour lie in one day
+pub rest-within : (from to per_hour : ℕ) → 0 < per_hour → from ≤ to
+    → to ≤ (from / per_hour + 1) * per_hour
+    → from % (24 * per_hour) + (to - from) ≤ 24 * per_hour
+rest-within from to per_hour some le hour =
+    by (from / (24 * per_hour)) (from % (24 * per_hour)) (div-add-mod' from (24 * per_hour))
+    (mod_below from (24 * per_hour) (omega (arith, some)))
+  where
+    regroup : (day : ℕ) → (day + 1) * 24 * per_hour ≡ day * (24 * per_hour) + 24 * per_hour
+    regroup day = omega arith
+
+    next : (h n : ℕ) → h < n → h + 1 ≤ n
+    next h n lt = omega arith
+
+    by : (day place : ℕ) → day * (24 * per_hour) + place ≡ from → place < 24 * per_hour
+        → place + (to - from) ≤ 24 * per_hour
+    by day place is lt = omega (
+      arith,
+      is,
+      le,
+      hour,
+      regroup day,
+      mul-le-mul_right per_hour (next (from / per_hour) ((day + 1) * 24)
+          (div_below from per_hour ((day + 1) * 24) some (omega (arith, is, lt, regroup day)))),
+    )
+
+-- a slot behind another of its day
+slot-leaf : (pages : LeafDays) (from i : ℕ) → from % slots_a_day pages + i < slots_a_day pages
+    → leaf_in (values_of_day pages.days (from / slots_a_day pages)) (from % slots_a_day pages + i)
+    ≡ leaf_at pages (from + i)
+slot-leaf pages from i lt =
+    sym (ap (leaf_at pages) (by (from / slots_a_day pages) (from % slots_a_day pages)
+    (div-add-mod' from (slots_a_day pages)))
+    ∙ leaf-here (slots_a_day pages) pages.days (from / slots_a_day pages)
+    (from % slots_a_day pages + i) lt)
+  where
+    by : (day place : ℕ) → day * slots_a_day pages + place ≡ from
+        → from + i ≡ day * slots_a_day pages + (place + i)
+    by day place is = omega (arith, is)
+
+-- the leaves of some slots of a day
+pub leaves-read : (pages : LeafDays) (from count : ℕ)
+    → from % slots_a_day pages + count ≤ slots_a_day pages
+    → leaves_over (leaf_in (values_of_day pages.days (from / slots_a_day pages)))
+    (from % slots_a_day pages) count ≡ leaves_over (leaf_at pages) from count
+leaves-read pages from count within =
+    leaves_over-moved (leaf_in (values_of_day pages.days (from / slots_a_day pages)))
+    (leaf_at pages) (from % slots_a_day pages) from count
+    (λ i lt. slot-leaf pages from i (omega (arith, within, lt)))
+
+pub leaves-nothing : (pages : LeafDays) (from count : ℕ)
+    → from % slots_a_day pages + count ≤ slots_a_day pages
+    → values_of_day pages.days (from / slots_a_day pages) ≡ []
+    → no_leaf ≡ leaves_over (leaf_at pages) from count
+leaves-nothing pages from count within none =
+    nothing-moved (leaf_at pages) from count
+    (λ i lt. sym (slot-leaf pages from i (omega (arith, within, lt)))
+    ∙ ap (λ leaves. leaf_in leaves (from % slots_a_day pages + i)) none)
 
 -- a day that is there has all of its slots
 pub day_whole : (pages : LeafDays) (day : ℕ) → ArePages pages → IsTrue (has_day pages day)

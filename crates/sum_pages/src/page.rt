@@ -57,6 +57,31 @@ impl Page {
         self.leaves[place]
     }
 
+    /// The leaves of the places from `from` up to `to`, added up.
+    pub(crate) fn leaves(&self, from: usize, to: usize) -> Leaf
+        requires order { from ≤ to }
+        requires within { to ≤ length self.now }
+        ensures { result ≡ leaves_over (leaf_in self.now) from (to - from) }
+    {
+        let mut sum = NO_LEAF;
+        for at in from..to {
+            self.are_few(from, at + 1);
+            sum = plus(sum, self.leaf(at));
+        }
+        sum
+    }
+
+    /// No work: what holds of the leaves of some places.
+    fn are_few(&self, from: usize, to: usize)
+        requires order { from ≤ to }
+        requires within { to ≤ length self.now }
+        ensures part { (leaves_over (leaf_in self.now) from (to - from)).num
+            ≤ (leaves_over (leaf_in self.now) from (to - from)).den }
+        ensures few { (leaves_over (leaf_in self.now) from (to - from)).den ≤ most_events }
+    {
+        let _total = &self.total;
+    }
+
     /// The leaves of an hour, added up.
     pub(crate) fn hour(&self, hour: usize) -> Leaf
         requires { hour < 24 }
@@ -122,5 +147,18 @@ fn new_total(total: Leaf, before: Leaf, after: Leaf) -> Leaf
     Leaf {
         num: total.num - before.num + after.num,
         den: total.den - before.den + after.den,
+    }
+}
+
+/// The sum of two leaves.
+fn plus(a: Leaf, b: Leaf) -> Leaf
+    requires part { a.num + b.num ≤ a.den + b.den }
+    requires few { a.den + b.den ≤ most_events }
+    ensures num { result.num ≡ a.num + b.num }
+    ensures den { result.den ≡ a.den + b.den }
+{
+    Leaf {
+        num: a.num + b.num,
+        den: a.den + b.den,
     }
 }

@@ -42,4 +42,11 @@ impl<L: Ledger> Steps<L> {
     {
         self.book.add(&mut self.share, 1);
     }
+
+    /// Takes so many steps.
+    pub fn tick_times(&mut self, count: u32)
+        ensures { self.new ≡ self.old + count }
+    {
+        self.book.add(&mut self.share, u64::from(count));
+    }
 }

@@ -1,5 +1,5 @@
 //! Pages of leaves, by the number of the day.
-ghost use Rattle.std.specs.Prelude.{◌≡◌, ℕ, ◌+◌, ◌*◌, ◌/◌, ◌%◌, ◌<◌, ◌≤◌, ◌==◌, ◌||◌, nat_eq};
+ghost use Rattle.std.specs.Prelude.{◌-◌, ◌≡◌, ℕ, ◌+◌, ◌*◌, ◌/◌, ◌%◌, ◌<◌, ◌≤◌, ◌==◌, ◌||◌, nat_eq};
 ghost use Rattle.std.specs.Prelude.{is_some, length, slice_set, IfOk, IsTrue, [], OnOk, OnErr};
 ghost use Rattle.std.specs.Int.{◌∣◌};
 ghost use Rattle.std.specs.Map.{lookup, set_value};
@@ -138,6 +138,21 @@ impl SumPages {
         let (day, place) = self.per_hour.place_of(slot);
         match value_on(&self.pages, day) {
             Some(page) => page.leaf(place as usize),
+            None => NO_LEAF,
+        }
+    }
+
+    /// The leaves of the slots from `from` up to `to`, of one hour, added up: a step each.
+    pub fn read_leaves<L: Ledger>(&self, from: u32, to: u32, steps: &mut Steps<L>) -> Leaf
+        requires order { from ≤ to }
+        requires hour { to ≤ (from / self.now.per_hour + 1) * self.now.per_hour }
+        ensures value { result ≡ leaves_over (leaf_at self.now) from (to - from) }
+        ensures cost { steps.new ≡ steps.old + (to - from) }
+    {
+        steps.tick_times(to - from);
+        let (day, place) = self.per_hour.place_of(from);
+        match value_on(&self.pages, day) {
+            Some(page) => page.leaves(place as usize, (place + (to - from)) as usize),
             None => NO_LEAF,
         }
     }

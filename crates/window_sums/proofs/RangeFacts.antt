@@ -1,9 +1,11 @@
 -- Ranges of slots that are cut at whole hours or days.
 use Rattle.std.proofs.Common.{◌≡◌, ℕ, zero, suc, ◌+◌, ◌-◌, ◌*◌, ◌/◌, ◌<◌, ◌≤◌, refl, sym}
-use Rattle.std.proofs.Common.{ap, subst, ◌∙◌, arith}
+use Rattle.std.proofs.Common.{ap, subst, ◌∙◌, arith, ◌⊎◌, inl, inr, nat_le, true, false}
 use Rattle.std.specs.Int.{div_ceil}
 use Rattle.std.proofs.Math.Nat.{div-mul-le_self, le_of_mul-le-mul_right, lt-div-mul-add}
 use Rattle.std.proofs.Math.Nat.{mul-le-mul_right}
+use Rattle.std.proofs.lemmas.Bool.Decides.{leb_tells}
+use Rattle.std.proofs.lemmas.Nat.{div-mul-add}
 use Rattle.std.proofs.lemmas.Grind.{div_ceil_times}
 use Rattle.exact_fraction.specs.declared.leaf.Leaf.{Leaf}
 use Rattle.slo_terms.specs.Sums.{AreSound, leaves_over, most_events}
@@ -48,6 +50,17 @@ units-none f from u =
 
 units_times : (a d u : ℕ) → (a + d) * u ≡ a * u + d * u
 units_times a d u = omega arith
+
+-- no slot
+pub none-behind : (f : ℕ → Leaf) (from to : ℕ) → to ≤ from
+    → record { num = 0; den = 0 } ≡ leaves_over f from (to - from)
+none-behind f from to le =
+    sym (ap (leaves_over f from) (none le)
+    ∙ same_leaf (leaves_over f from 0) (record { num = 0; den = 0 })
+    (no_term (λ k. (f k).num) from) (no_term (λ k. (f k).den) from))
+  where
+    none : to ≤ from → to - from ≡ 0
+    none le = omega (arith, le)
 
 -- a unit more
 pub units-next : (f : ℕ → Leaf) (from at u : ℕ) → from ≤ at →
@@ -147,19 +160,86 @@ pub record IsCut (from to count first end : ℕ) : Type 0 where
   pub end_to : end * count ≤ to
   pub near_end : to < end * count + count
 
-pub is_cut : (from to count first : ℕ) → 0 < count → first ≡ div_ceil from count
-    → first < to / count → IsCut from to count first (to / count)
-is_cut from to count first some is less = record {
+pub is_cut-some : (from to count first : ℕ) → 0 < count → first ≡ div_ceil from count
+    → first ≤ to / count → IsCut from to count first (to / count)
+is_cut-some from to count first some is le = record {
   some = some;
-  order = at_most first (to / count) less;
+  order = le;
   from_first = subst (λ n. from ≤ n * count) (sym is) (div_ceil_times from count some).0;
   near_first = subst (λ n. n * count < from + count) (sym is) (div_ceil_times from count some).1;
   end_to = div-mul-le_self to count;
   near_end = lt-div-mul-add some;
 }
+
+pub is_cut : (from to count first : ℕ) → 0 < count → first ≡ div_ceil from count
+    → first < to / count → IsCut from to count first (to / count)
+is_cut from to count first some is less =
+    is_cut-some from to count first some is (at_most first (to / count) less)
   where
     at_most : (a b : ℕ) → a < b → a ≤ b
     at_most a b less = omega (arith, less)
+
+-- the first whole hour begins at most where the next hour does
+first-near : (from count first : ℕ) → 0 < count → first * count < from + count
+    → first ≤ from / count + 1
+first-near from count first some near = by (leb_tells first (from / count + 1))
+  where
+    two : (q : ℕ) → (q + 1 + 1) * count ≡ q * count + count + count
+    two q = omega arith
+
+    next : (n m : ℕ) → n < m → n + 1 ≤ m
+    next n m lt = omega arith
+
+    by : ((nat_le first (from / count + 1) ≡ true) × (first ≤ from / count + 1))
+        ⊎ ((nat_le first (from / count + 1) ≡ false) × (from / count + 1 < first))
+        → first ≤ from / count + 1
+    by (inl le) = le.1
+    by (inr gt) = absurd (never (omega (
+      arith,
+      near,
+      (let e : from < from / count * count + count = lt-div-mul-add some in e),
+      two (from / count),
+      mul-le-mul_right count (next (from / count + 1) first gt.1),
+    )))
+      where
+        never : 0 < 0 → ⊥
+        never lt = omega arith
+
+-- slots up to the first whole hour, and those behind the last one, lie in one hour each
+pub before-hour : (from to count first end : ℕ) → IsCut from to count first end
+    → first * count ≤ (from / count + 1) * count
+before-hour from to count first end cut =
+    mul-le-mul_right count (first-near from count first cut.some cut.near_first)
+
+pub after-hour : (from to count first end : ℕ) → IsCut from to count first end
+    → to ≤ (end * count / count + 1) * count
+after-hour from to count first end cut =
+    subst (λ q. to ≤ (q + 1) * count) (sym (ap (λ n. n / count) (more (end * count))
+    ∙ div-mul-add end count 0 cut.some)) (omega (arith, cut.near_end, one end))
+  where
+    more : (n : ℕ) → n ≡ n + 0
+    more n = omega arith
+
+    one : (n : ℕ) → (n + 1) * count ≡ n * count + count
+    one n = omega arith
+
+-- slots without a whole hour's beginning among them
+pub one-hour : (from to count first : ℕ) → 0 < count → first ≡ div_ceil from count
+    → to / count < first → to ≤ (from / count + 1) * count
+one-hour from to count first some is less = omega (
+  arith,
+  (let e : to < to / count * count + count = lt-div-mul-add some in e),
+  mul-le-mul_right count (below (to / count) first (from / count) less
+      (first-near from count first some
+      (subst (λ n. n * count < from + count) (sym is) (div_ceil_times from count some).1))),
+  one (from / count),
+)
+  where
+    below : (end first q : ℕ) → end < first → first ≤ q + 1 → end ≤ q
+    below end first q lt le = omega (arith, lt, le)
+
+    one : (n : ℕ) → (n + 1) * count ≡ n * count + count
+    one n = omega arith
 
 -- there are larger units, so the range isn't empty
 pub cut-range : (from to count first end : ℕ) → IsCut from to count first end → from ≤ to
@@ -191,15 +271,15 @@ larger-parts f from to first end count u before middle after cut x y z = record 
 -- .. and a range of slots.
 pub slot-parts : (f : ℕ → Leaf) (from to first end count : ℕ) (before middle after : Leaf) →
     IsCut from to count first end →
-    before ≡ leaves_over f (from * 1) ((first * count - from) * 1) →
+    before ≡ leaves_over f from (first * count - from) →
     middle ≡ leaves_over f (first * count) ((end - first) * count) →
-    after ≡ leaves_over f (end * count * 1) ((to - end * count) * 1) →
+    after ≡ leaves_over f (end * count) (to - end * count) →
     AreParts f from (first * count) (end * count) to before middle after
 slot-parts f from to first end count before middle after cut x y z = record {
   order = (cut.from_first, mul-le-mul_right count cut.order, cut.end_to);
-  before_is = x ∙ slots-units f from (first * count - from);
+  before_is = x;
   middle_is = y ∙ units-slots f first end count cut.order;
-  after_is = z ∙ slots-units f (end * count) (to - end * count);
+  after_is = z;
 }
 
 -- reads that take no more than there are slots

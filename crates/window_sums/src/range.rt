@@ -34,14 +34,26 @@ pub(crate) fn sum_slots<L: Ledger>(
     let per_hour = pages.per_hour();
     let first = from.div_ceil(per_hour);
     let end = to / per_hour;
-    if end <= first {
-        return sum_units(pages, Unit::Slot, from, to, steps);
+    if end < first {
+        return sum_within_hour(pages, from, to, steps);
     }
-    let before = sum_units(pages, Unit::Slot, from, first * per_hour, steps);
+    let before = pages.read_leaves(from, first * per_hour, steps);
     let hours = sum_hours(pages, first, end, steps);
-    let after = sum_units(pages, Unit::Slot, end * per_hour, to, steps);
+    let after = pages.read_leaves(end * per_hour, to, steps);
     pages.sound();
     joined(before, hours, after)
+}
+
+/// The leaves of the slots from `from` up to `to`, of one hour.
+fn sum_within_hour<L: Ledger>(pages: &SumPages, from: u32, to: u32, steps: &mut Steps<L>) -> Leaf
+    requires { to ≤ (from / pages.now.per_hour + 1) * pages.now.per_hour }
+    ensures value { result ≡ leaves_over (leaf_at pages.now) from (to - from) }
+    ensures cost { steps.new ≤ steps.old + (to - from) }
+{
+    if to <= from {
+        return Leaf { num: 0, den: 0 };
+    }
+    pages.read_leaves(from, to, steps)
 }
 
 /// The leaves of the hours from `from` up to `to`: hours up to a whole day, then days, and hours

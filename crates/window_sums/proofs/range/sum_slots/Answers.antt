@@ -1,8 +1,8 @@
 use Rattle.std.proofs.Common.{◌-◌, ◌*◌, ◌/◌, ap, sym, ◌∙◌, arith}
 use Rattle.slo_terms.specs.Sums.{leaves_over}
 use Rattle.sum_pages.specs.Pages.{leaf_at}
-use Rattle.window_sums.proofs.RangeFacts.{AreParts, IsCut, cut-steps, is_cut, parts-few, parts-sum}
-use Rattle.window_sums.proofs.RangeFacts.{reads-few, slot-parts}
+use Rattle.window_sums.proofs.RangeFacts.{AreParts, IsCut, cut-steps, is_cut-some, parts-few}
+use Rattle.window_sums.proofs.RangeFacts.{parts-sum, reads-few, slot-parts}
 use Rattle.window_sums.proofs.range.sum_slots.Given.{Over}
 use Rattle.window_sums.proofs.range.sum_slots.Goals as goal
 use Rattle.window_sums.proofs.range.sum_slots.Goals.{After-sound}
@@ -10,23 +10,23 @@ use Rattle.window_sums.proofs.range.sum_slots.Goals.{After-sound}
 -- the range is cut at whole hours
 cut : (g : Over) (c : After-sound g) → IsCut c.args.from c.args.to c.per_hour-per_hour.result
     c.div_ceil-first.result (c.args.to / c.per_hour-per_hour.result)
-cut g c = is_cut c.args.from c.args.to c.per_hour-per_hour.result c.div_ceil-first.result
+cut g c = is_cut-some c.args.from c.args.to c.per_hour-per_hour.result c.div_ceil-first.result
     c.per_hour-per_hour.ensures.some c.div_ceil-first.ensures c.if-end-first.false
 
 -- its three sums, side by side
 parts : (g : Over) (c : After-sound g) → AreParts (leaf_at c.args.pages.now) c.args.from
     (c.div_ceil-first.result * c.per_hour-per_hour.result)
     (c.args.to / c.per_hour-per_hour.result * c.per_hour-per_hour.result) c.args.to
-    c.sum_units-before.result c.sum_hours-hours.result c.sum_units-after.result
+    c.read_leaves-before.result c.sum_hours-hours.result c.read_leaves-after.result
 parts g c =
     let leaf = leaf_at c.args.pages.now in
     let count = c.per_hour-per_hour.result in
     let first = c.div_ceil-first.result in
     let end = c.args.to / count in
-    slot-parts leaf c.args.from c.args.to first end count c.sum_units-before.result
-    c.sum_hours-hours.result c.sum_units-after.result (cut g c) c.sum_units-before.ensures.value
+    slot-parts leaf c.args.from c.args.to first end count c.read_leaves-before.result
+    c.sum_hours-hours.result c.read_leaves-after.result (cut g c) c.read_leaves-before.ensures.value
     (c.sum_hours-hours.ensures.value ∙ ap (λ n. leaves_over leaf (first * n) ((end - first) * n))
-    (sym c.per_hour-per_hour.ensures.value)) c.sum_units-after.ensures.value
+    (sym c.per_hour-per_hour.ensures.value)) c.read_leaves-after.ensures.value
 
 pub joined-requires-clause-part : goal.joined-requires-clause-part
 joined-requires-clause-part g c =
@@ -47,9 +47,9 @@ returns-clause-short g c =
       cut-steps c.args.from c.args.to c.per_hour-per_hour.result c.div_ceil-first.result
           (c.args.to / c.per_hour-per_hour.result)
           (cut g (goal.at.returns-clause-short g c).After-sound),
-      c.sum_units-before.ensures.cost,
+      c.read_leaves-before.ensures.cost,
       c.sum_hours-hours.ensures.short,
-      c.sum_units-after.ensures.cost,
+      c.read_leaves-after.ensures.cost,
     )
 
 pub returns-clause-bounded : goal.returns-clause-bounded
@@ -60,7 +60,7 @@ returns-clause-bounded g c = λ few.
           c.div_ceil-first.result (c.args.to / c.per_hour-per_hour.result)
           (cut g (goal.at.returns-clause-bounded g c).After-sound) c.per_hour-per_hour.ensures.value
           c.per_hour-per_hour.ensures.few few,
-      c.sum_units-before.ensures.cost,
+      c.read_leaves-before.ensures.cost,
       c.sum_hours-hours.ensures.bounded,
-      c.sum_units-after.ensures.cost,
+      c.read_leaves-after.ensures.cost,
     )
