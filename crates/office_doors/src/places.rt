@@ -12,7 +12,7 @@ use std::time::{Clock, Duration, Instant};
 
 /// How many links there may be: as many as a process has descriptors for by default, with some to
 /// spare. Above it the link is closed that waits for the longest time.
-const MOST_LINKS: usize = 1_000;
+pub(crate) const MOST_LINKS: usize = 1_000;
 
 /// How many places the set tells of at once.
 pub(crate) const EVENTS: usize = 64;

@@ -2,6 +2,7 @@
 ghost use Rattle.std.specs.Prelude.{◌≡◌, ◌++◌, ◌∷◌, [], None, length, All, IfOk};
 
 use crate::hall::{Hall, make_hall, open_set};
+use crate::places::MOST_LINKS;
 use crate::tcp_door::TcpDoor;
 use crate::{Doors, DoorsFault, Given};
 use std::alloc::Global;
@@ -45,6 +46,17 @@ fn listen<R: Net>(rt: &R, port: u16, asked: &mut Given<u16>) -> io::Result<TcpLi
     Ok(TcpListener::from(mio::net::TcpListener::bind(rt, here)?))
 }
 
+/// Has the system make room for the descriptors of all links, as far as it gives any, while there
+/// are no workers: among several threads it makes room only after some 10 ms, each time that the
+/// number of links has doubled, and who takes a link waits for it.
+fn reserve_descriptors(alloc: Global, listener: &TcpListener) -> Option<()> {
+    let mut taken = Vec::with_capacity(alloc, MOST_LINKS).ok()?;
+    for _ in 0..MOST_LINKS {
+        taken.push(listener.try_clone().ok()?).ok()?;
+    }
+    Some(())
+}
+
 /// Listens at the port, once for all doors.
 fn open_hall<R: Net + time::Clock + Wait + Copy + Drop>(
     rt: R,
@@ -57,6 +69,7 @@ fn open_hall<R: Net + time::Clock + Wait + Copy + Drop>(
     let Ok(listener) = listen(&rt, port, asked) else {
         return Err(DoorsFault::Failed);
     };
+    reserve_descriptors(alloc, &listener);
     let Ok(poll) = open_set(&rt, &listener) else {
         return Err(DoorsFault::Failed);
     };
