@@ -1,6 +1,6 @@
 //! How many workers are free and how many links wait, and what a link may take by that.
 
-use std::sync::atomic::{AtomicBool, AtomicUsize, Ordering};
+use std::sync::atomic::{AtomicUsize, Ordering};
 use std::time::{Clock, Instant};
 
 /// How many milliseconds a message may take from its first byte to its last, and an answer; and
@@ -13,6 +13,9 @@ const HURRY_MILLIS: u64 = 2_000;
 /// wait: nobody else does.
 const LOOK_MILLIS: usize = 8;
 
+/// How many looks in a row have to find one link at most until busy links hold their workers again.
+const LONE_LOOKS: usize = 8;
+
 /// How many workers are free, and what is known of links that wait for one.
 #[derive(Drop)]
 pub(crate) struct Tally {
@@ -20,9 +23,9 @@ pub(crate) struct Tally {
     free_workers: AtomicUsize,
     /// Of how many links the set told that nobody took yet.
     ready_links: AtomicUsize,
-    /// Whether the last look found more than one.
-    found_many: AtomicBool,
-    /// When it was, in milliseconds from the beginning.
+    /// How many of these looks are left. None where busy links hold their workers.
+    lone_looks: AtomicUsize,
+    /// When the last look was, in milliseconds from the beginning.
     looked_at: AtomicUsize,
 }
 
@@ -32,7 +35,7 @@ impl Tally {
             begun,
             free_workers: AtomicUsize::new(0),
             ready_links: AtomicUsize::new(0),
-            found_many: AtomicBool::new(false),
+            lone_looks: AtomicUsize::new(0),
             looked_at: AtomicUsize::new(0),
         }
     }
@@ -66,7 +69,12 @@ impl Tally {
     /// Notes a look, which found so many links beside the one that is taken at once.
     pub(crate) fn note_look<R: Clock>(&self, rt: &R, others: usize) {
         self.set_ready(others);
-        self.found_many.store(others > 0, Ordering::SeqCst);
+        let lone_looks = if others > 0 {
+            LONE_LOOKS
+        } else {
+            self.lone_looks.load(Ordering::SeqCst).saturating_sub(1)
+        };
+        self.lone_looks.store(lone_looks, Ordering::SeqCst);
         self.looked_at.store(self.millis(rt), Ordering::SeqCst);
     }
 
@@ -76,7 +84,7 @@ impl Tally {
         if self.free_workers.load(Ordering::SeqCst) > 0 {
             return false;
         }
-        if self.has_ready() || self.found_many.load(Ordering::SeqCst) {
+        if self.has_ready() || self.lone_looks.load(Ordering::SeqCst) > 0 {
             return true;
         }
         let now = self.millis(rt);
