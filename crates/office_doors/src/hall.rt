@@ -63,6 +63,8 @@ struct Lead {
     events: Events,
     last_round: Option<Instant>,
     failures: u32,
+    /// Whether a link may wait at the listener: since it was told of, until none came of it.
+    is_asked: bool,
 }
 
 /// What the doors at one port share. Who takes both locks takes that of `lead` first.
@@ -179,17 +181,27 @@ impl<R: time::Clock + Wait + Copy + Drop> Hall<R> {
         Ok(())
     }
 
-    /// Takes at most one link, and waits until there is something to do.
-    fn look(&self, rt: R, lead: &mut Lead) -> Result<(), Failed> {
+    /// Takes at most one link, and hears whether it has bytes.
+    fn ask_listener(&self, rt: R, lead: &mut Lead) -> Result<(), Failed> {
         match self.take_link(rt) {
             Taken::Link => {
                 self.wait_for(rt, lead, 0)?;
             }
-            Taken::Nothing => {
-                self.wait_for(rt, lead, ROUND_MILLIS)?;
-            }
+            Taken::Nothing => lead.is_asked = false,
             Taken::NoRoom => self.make_room(rt, lead)?,
             Taken::Fault => return Err(Failed),
+        }
+        Ok(())
+    }
+
+    /// Waits until there is something to do, and takes a link that comes. The listener is asked
+    /// only where it was told of: an `accept` in vain costs as much as half an answer.
+    fn look(&self, rt: R, lead: &mut Lead) -> Result<(), Failed> {
+        if !lead.is_asked {
+            lead.is_asked = self.wait_for(rt, lead, ROUND_MILLIS)?;
+        }
+        if lead.is_asked {
+            self.ask_listener(rt, lead)?;
         }
         self.make_round(rt, lead);
         Ok(())
@@ -313,6 +325,7 @@ pub(crate) fn make_hall<R: time::Clock + Copy + Drop>(
         events: Events::with_capacity(alloc, EVENTS)?,
         last_round: None,
         failures: 0,
+        is_asked: true,
     };
     let tally = Arc::new(alloc, Tally::new(now))?;
     let places = Places::new(alloc)?;
