@@ -1,0 +1,1 @@
+"""What the contracts of this repository rest on: read off the sources, and written as a page."""
