@@ -31,18 +31,24 @@ def key_of(one: Item) -> tuple[str, str, int]:
     return (one.crate, one.at, one.line)
 
 
-class House:
-    """The crates of `crates.txt`, lowest first, and all that they define."""
+def folders_of(root: Path) -> dict[str, Path]:
+    """The crates of `crates.txt`, lowest first, with their folders."""
+    lines = (root / "crates.txt").read_text(encoding="utf-8").splitlines()
+    names = [it.split(":")[0].split()[0] for it in lines if it and not it.startswith("#")]
+    return {name: root / "crates" / name for name in names}
 
-    def __init__(self, root: Path) -> None:
-        self.root = root
-        lines = (root / "crates.txt").read_text(encoding="utf-8").splitlines()
-        self.crates = [it.split(":")[0].split()[0] for it in lines if it and not it.startswith("#")]
+
+class House:
+    """Crates, lowest first, and all that they define."""
+
+    def __init__(self, folders: dict[str, Path]) -> None:
+        self.folders = folders
+        self.crates = list(folders)
         self.modules: dict[tuple[str, str], Module] = {}
         self.declared: dict[str, dict[str, list[Declared]]] = {}
         self.by_path: dict[tuple[str, str, str], Definition] = {}
-        for crate in self.crates:
-            self._read_crate(crate, root / "crates" / crate)
+        for crate, folder in folders.items():
+            self._read_crate(crate, folder)
         for module in self.modules.values():
             local = {name: it for it in module.definitions for name in it.names | it.constructors}
             reader = Reader(module, local, self.look_up, set(self.declared))
@@ -86,7 +92,7 @@ class House:
         """A type rests on the types of its fields."""
         if one.kind not in ("struct", "enum"):
             return
-        text = (self.root / one.at).read_text(encoding="utf-8")
+        text = (self.folders[one.crate] / "src" / one.path).read_text(encoding="utf-8")
         homes = {}
         for use in re.finditer(r"^use (\w+)::([^;]*);", text, re.M):
             home = one.crate if use[1] in ("crate", "super") else use[1]
@@ -106,7 +112,7 @@ class House:
 
     def contract(self, path: str, name: str) -> Contract:
         """The contract of a function of `path`, as CRATE/src/FILE.rt."""
-        text = (self.root / "crates" / path).read_text(encoding="utf-8")
+        text = self.source(path)
         head = r"((?:^[ ]*///[^\n]*\n|^[ ]*#\[[^\n]*\n)*)"
         function = rf"^([ ]*)(?:pub(?:\(crate\))? )?(?:const )?fn {name}\b.*?\n\2\{{(?:\}})?\n"
         found = re.search(head + function, text, re.M | re.S)
@@ -117,7 +123,7 @@ class House:
 
     def trait(self, path: str, name: str) -> Contract:
         """A trait of the outside, by what its clauses name."""
-        text = (self.root / "crates" / path).read_text(encoding="utf-8")
+        text = self.source(path)
         found = re.search(rf"((?:^///[^\n]*\n|^#\[[^\n]*\n)*)^pub trait {name}\b.*?^}}", text, re.M | re.S)
         if not found:
             raise SystemExit(f"statement: no trait {name} in {path}")
@@ -127,8 +133,12 @@ class House:
 
     def functions(self, path: str) -> list[str]:
         """The public functions of a file, in order."""
-        file = self.root / "crates" / path
-        return re.findall(rf"^pub fn ({WORD})", file.read_text(encoding="utf-8"), re.M)
+        return re.findall(rf"^pub fn ({WORD})", self.source(path), re.M)
+
+    def source(self, path: str) -> str:
+        """The text of a file of `src/`, as CRATE/src/FILE.rt."""
+        crate, _, inside = path.partition("/")
+        return (self.folders[crate] / inside).read_text(encoding="utf-8")
 
 
 def _english(head: str) -> str:

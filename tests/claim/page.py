@@ -93,8 +93,8 @@ def _chapters(claim: Claim) -> str:
 
 def _outside(claim: Claim) -> str:
     outside: dict[str, set[str]] = {}
-    for crate, name in (it for one in claim.definitions for it in one.outside):
-        outside.setdefault(crate, set()).add(name)
+    for path, name in (it for one in claim.definitions for it in one.outside):
+        outside.setdefault(path.split(".")[0], set()).add(name)
     out = ["## What others define", "", "These words are the toolchain's and its ported crates', which are trusted:", ""]
     out += _table("Library", "Words")
     for crate in sorted(outside, key=lambda it: (it != "std", it)):

@@ -32,7 +32,7 @@ class Definition:
     names: set[str] = field(default_factory=set)
     constructors: set[str] = field(default_factory=set)
     uses: set["Item"] = field(default_factory=set)
-    # words of the toolchain and of ported crates: (crate, name)
+    # words of the toolchain and of ported crates: (path of the module, name)
     outside: set[tuple[str, str]] = field(default_factory=set)
 
     @property
@@ -169,6 +169,16 @@ def read_module(path: Path, crate: str, name: str) -> Module:
     return module
 
 
+def _end_of_item(lines: list[str], number: int, kind: str) -> int:
+    """Behind the last line of a type, trait or constant that begins at a line."""
+    is_short = kind in ("const", "type") or lines[number].rstrip().endswith(";")
+    for end in range(number + 1, len(lines) + 1):
+        last = lines[end - 1].rstrip()
+        if last.endswith(";") if is_short else last.startswith("}") or last.endswith("{}"):
+            return end
+    return number + 1
+
+
 def declared_items(crate: str, folder: Path) -> dict[str, list[Declared]]:
     """Types, traits and constants of a crate's `src/`, by name."""
     items: dict[str, list[Declared]] = {}
@@ -179,13 +189,7 @@ def declared_items(crate: str, folder: Path) -> dict[str, list[Declared]]:
             if not found:
                 continue
             kind, name = found.groups()
-            end = number + 1
-            if kind in ("const", "type") or line.rstrip().endswith(";"):
-                while not lines[end - 1].rstrip().endswith(";"):
-                    end += 1
-            else:
-                while not lines[end - 1].startswith("}") and not lines[end - 1].rstrip().endswith("{}"):
-                    end += 1
+            end = _end_of_item(lines, number, kind)
             body = "\n".join(lines[number:end])
             made = Declared(crate, str(path.relative_to(folder)), name, kind, number + 1, body)
             items.setdefault(name, []).append(made)

@@ -117,7 +117,7 @@ class Reader:
         if found is not None:
             definition.uses.add(found)
         elif path.split(".")[0] not in self.crates:
-            definition.outside.add((path.split(".")[0], name))
+            definition.outside.add((path, name))
 
 
 def contract_reader(imports: Imports, aliases: dict[str, str], crate: str, look_up: LookUp, crates: set[str]) -> Reader:

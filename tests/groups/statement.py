@@ -13,7 +13,7 @@ BUDGET = Path("crates/slo_terms/specs/Budget.antt")
 
 def copy_of_sources(folder: Path) -> Path:
     """All that the page is made of, and the page."""
-    for name in ("crates.txt", "tests/statement", "tests/claim", "docs/statement.md"):
+    for name in ("crates.txt", "tests/statement", "tests/claim", "docs/statement.md", "docs/trusted.md"):
         (folder / name).parent.mkdir(parents=True, exist_ok=True)
         place = TOP / name
         if place.is_dir():
