@@ -6,7 +6,7 @@ from dataclasses import dataclass
 from fractions import Fraction
 from typing import Optional
 
-from slo_tools.refusals import Members
+from slo_tools.told import Told
 
 
 @dataclass(frozen=True)
@@ -124,19 +124,14 @@ class Ticked:
     notices: int
 
 
-def fraction(text: Optional[str]) -> Optional[Fraction]:
-    """`13/25` as a number; null stays None."""
-    return None if text is None else Fraction(text)
-
-
-def budget_of(told: Members) -> Budget:
+def budget_of(told: Told) -> Budget:
     """A budget by the members of an answer."""
     return Budget(
-        told["objective"],
-        told["from"],
-        told["num"],
-        told["den"],
-        fraction(told["error"]),
-        fraction(told["burn"]),
-        fraction(told["remaining"]),
+        told.number("objective"),
+        told.number_or_none("from"),
+        told.number("num"),
+        told.number("den"),
+        told.fraction_or_none("error"),
+        told.fraction_or_none("burn"),
+        told.fraction_or_none("remaining"),
     )

@@ -15,13 +15,12 @@ from __future__ import annotations
 
 import re
 import time
-from collections.abc import Callable, Iterator, Mapping, Sequence
+from collections.abc import Callable, Iterator, Sequence
 from contextlib import contextmanager
 from dataclasses import dataclass, field
-from typing import Optional, Union
+from typing import Optional, TypeVar
 
-import requests
-
+from slo_tools import questions
 from slo_tools.answers import (
     Alerts,
     Batch,
@@ -33,14 +32,14 @@ from slo_tools.answers import (
     ObjectName,
     SampleRow,
     Ticked,
-    budget_of,
-    fraction,
 )
 from slo_tools.clock import MINUTES_END
-from slo_tools.refusals import KINDS, Foreign, Members, NoAnswer, NotFound, OfficeError, Refusal
+from slo_tools.questions import Answer, Keys, Outcome, Parts, Question, answer_of, path_of
+from slo_tools.refusals import Foreign, Members, NoAnswer, NotFound, Refusal
+from slo_tools.told import Told
+from slo_tools.wire import Address, Link, Peer, Silence, TooLong, Verify, address_of
 
-Parts = Sequence[Union[str, int]]
-Keys = Mapping[str, Union[str, int]]
+Found = TypeVar("Found")
 
 ROWS_OF_A_BATCH = 1_000
 BODY_BYTES = 1_048_576
@@ -48,9 +47,13 @@ BODY_BYTES = 1_048_576
 CELLS, ACCEPTED = 2_000_000, 4_000_000
 UPGRADED_CELLS, UPGRADED_ACCEPTED = 4_000_000, 8_000_000
 
+# A link is closed behind so many answers.
+ANSWERS_OF_A_LINK = 1_000
+# What a question that is asked together with others adds to the time that their answers may take:
+# ten times what the slowest of them takes, a timeline of a month.
+SECONDS_OF_A_QUESTION = 0.02
+
 _LABEL = re.compile(r"[A-Za-z0-9._-]{1,63}")
-# Parts of paths are read as they stand, without percent signs; a zone's name may have `/` and `+`.
-_PART = re.compile(r"[A-Za-z0-9._+/-]+")
 
 
 def is_label(text: str) -> bool:
@@ -75,52 +78,47 @@ class Pauses:
             length *= self.factor
 
 
-@dataclass(frozen=True)
-class Answer:
-    """An answer of any status. `members` is None where the content is no JSON object; `date` is
-    the field `Date`, which the office itself doesn't send and a proxy does."""
-
-    status: int
-    members: Optional[Members]
-    content: bytes
-    date: Optional[str]
-
-    @property
-    def word(self) -> str:
-        """The word of `error`, or nothing."""
-        return str((self.members or {}).get("error", ""))
-
-
 @dataclass
 class Office:
     """An office at an address as `http://127.0.0.1:8080`, or behind a proxy with a password.
 
-    `verify` is True, False or the file of a certificate; `heard` is told of each try that failed
-    and of the pause in seconds before the next one.
+    `timeout` is the whole time of an answer in seconds; `verify` is True, False or the file of a
+    certificate; `heard` is told of each try that failed and of the pause in seconds before the
+    next one. ValueError is raised for what is no address.
     """
 
     address: str
     timeout: float = 30.0
     pauses: Pauses = Pauses()
     credentials: Optional[tuple[str, str]] = None
-    verify: Union[bool, str] = True
+    verify: Verify = True
     sleep: Callable[[float], None] = time.sleep
     heard: Optional[Callable[[str, float], None]] = None
-    _session: Optional[requests.Session] = field(default=None, init=False, repr=False)
+    token: Optional[str] = None
+    _peer: Peer = field(init=False, repr=False)
+    _keeps: bool = field(default=False, init=False, repr=False)
+    _link: Optional[Link] = field(default=None, init=False, repr=False)
+
+    def __post_init__(self) -> None:
+        address = _office_address(self.address)
+        self._peer = Peer(address, self.credentials, self.token, self.verify, self.timeout)
+
+    def answered(self, status: int) -> None:
+        """Called for each answer that came, with its status."""
 
     @contextmanager
     def kept_link(self) -> Iterator[None]:
         """Use one link for all requests inside. The office closes a link that waits for long, or
         for another one, so this is for requests that follow one another at once."""
-        if self._session is not None:
+        if self._keeps:
             yield
             return
-        self._session = self._new_session()
+        self._keeps = True
         try:
             yield
         finally:
-            self._session.close()
-            self._session = None
+            self._keeps = False
+            self._close()
 
     def ask(
         self,
@@ -129,17 +127,12 @@ class Office:
         keys: Optional[Keys] = None,
         body: bytes = b"",
         pauses: Optional[Pauses] = None,
-    ) -> Members:
+    ) -> Told:
         """The members of the answer of status 200 to a request at `/part/part?key=value`.
 
         Raises a Refusal, NoAnswer after the last try, or Foreign.
         """
-        answer = self.answer(method, parts, keys, body, pauses)
-        if answer.status != 200:
-            raise _refusal(answer)
-        if answer.members is None:
-            raise Foreign(answer.status, "the answer is no JSON object")
-        return answer.members
+        return self.answer(method, parts, keys, body, pauses).told()
 
     def answer(
         self,
@@ -149,56 +142,137 @@ class Office:
         body: bytes = b"",
         pauses: Optional[Pauses] = None,
     ) -> Answer:
-        """The answer, whatever its status is, that doesn't pass by itself. Raises NoAnswer."""
-        url = self.address.rstrip("/") + _path(parts, keys)
+        """The answer, whatever its status is, that doesn't pass by itself. Raises NoAnswer, or
+        Foreign for an answer that is longer than any of an office."""
+        return self._answer(method, path_of(parts, keys), body, pauses)
+
+    def one(self, question: Question[Found]) -> Found:
+        """What is found by a question. Raises a Refusal, NoAnswer after the last try, or Foreign."""
+        return question.read(self._answer("GET", question.path, b"", None))
+
+    def asked(self, asked: Sequence[Question[Found]]) -> list[Outcome[Found]]:
+        """What many questions come to, in their order: they are written one behind another on one
+        link, at most 1,000 at a time. Where the link ends early, those that weren't answered are
+        asked again. Raises NoAnswer after the last try without an answer, or Foreign."""
+        found: list[Outcome[Found]] = []
+        for first in range(0, len(asked), ANSWERS_OF_A_LINK):
+            together = asked[first : first + ANSWERS_OF_A_LINK]
+            answers = self._together([question.path for question in together])
+            found += map(questions.outcome_of, together, answers)
+        return found
+
+    def _answer(self, method: str, path: str, body: bytes, pauses: Optional[Pauses]) -> Answer:
         why = ""
         for pause in [*(pauses or self.pauses).lengths(), None]:
             try:
-                answer = _answer_of(self._send(method, url, body))
-            except requests.RequestException as fault:
-                why = _why(fault)
+                answer = self._sent(method, path, body)
+            except Silence as silence:
+                why = self._why(silence)
             else:
-                if not _passes(answer):
+                if not answer.passes:
                     return answer
                 why = f"status {answer.status} {answer.word}".rstrip()
-            if pause is not None:
-                if self.heard is not None:
-                    self.heard(why, pause)
-                self.sleep(pause)
-        raise NoAnswer(f"{self.address}: {why}")
+            self._pause(why, pause)
+        raise self._no_answer(why)
 
-    def _send(self, method: str, url: str, body: bytes) -> requests.Response:
-        if self._session is not None:
-            return self._one(self._session, method, url, body, {})
-        with self._new_session() as session:
-            return self._one(session, method, url, body, {"Connection": "close"})
+    def _together(self, paths: Sequence[str]) -> list[Answer]:
+        answers: dict[int, Answer] = {}
+        lengths = self.pauses.lengths()
+        while True:
+            end = time.monotonic() + self.timeout + SECONDS_OF_A_QUESTION * len(paths)
+            why = self._round_of(paths, answers, end)
+            if len(answers) == len(paths):
+                return [answers[number] for number in range(len(paths))]
+            pause = next(lengths, None)
+            self._pause(why, pause)
+            if pause is None:
+                raise self._no_answer(why)
 
-    def _one(
-        self, session: requests.Session, method: str, url: str, body: bytes, head: dict[str, str]
-    ) -> requests.Response:
-        return session.request(
-            method,
-            url,
-            data=body,
-            headers=head,
-            timeout=self.timeout,
-            verify=self.verify,
-            allow_redirects=False,
-        )
+    def _round_of(self, paths: Sequence[str], answers: dict[int, Answer], end: float) -> str:
+        """Asks what isn't answered, again on each new link as long as that brings an answer; why
+        the rest has none."""
+        why = ""
+        while left := [number for number in range(len(paths)) if number not in answers]:
+            before = len(answers)
+            try:
+                why = self._on_a_link([(number, paths[number]) for number in left], answers, end)
+            except Silence as silence:
+                why = self._why(silence)
+            if len(answers) == before:
+                return why
+        return why
 
-    def _new_session(self) -> requests.Session:
-        session = requests.Session()
-        # Proxies and passwords of the environment aren't meant for the office.
-        session.trust_env = False
-        session.auth = self.credentials
-        return session
+    def _on_a_link(
+        self, asked: Sequence[tuple[int, str]], answers: dict[int, Answer], end: float
+    ) -> str:
+        why = "no answer: the link was closed"
+        link = self._new_link(end)
+        try:
+            requests = [self._peer.request("GET", path) for _, path in asked]
+            for (number, _), reply in zip(asked, link.replies(requests, self._peer.most, end)):
+                answer = answer_of(reply)
+                self.answered(answer.status)
+                if answer.passes:
+                    why = f"status {answer.status} {answer.word}".rstrip()
+                else:
+                    answers[number] = answer
+        finally:
+            self._let_go(link)
+        return why
+
+    def _sent(self, method: str, path: str, body: bytes) -> Answer:
+        end = time.monotonic() + self.timeout
+        link = self._new_link(end)
+        try:
+            link.send(self._peer.request(method, path, body, is_last=not self._keeps), end)
+            answer = answer_of(link.reply(method, self._peer.most, end))
+        finally:
+            self._let_go(link)
+        self.answered(answer.status)
+        return answer
+
+    def _new_link(self, end: float) -> Link:
+        kept, self._link = self._link, None
+        if kept is not None:
+            if kept.answers < ANSWERS_OF_A_LINK and kept.is_quiet():
+                return kept
+            kept.close()
+        return Link(self._peer, end)
+
+    def _let_go(self, link: Link) -> None:
+        if self._keeps and not link.is_ended:
+            self._link = link
+        else:
+            link.close()
+
+    def _close(self) -> None:
+        if self._link is not None:
+            self._link.close()
+            self._link = None
+
+    def _pause(self, why: str, pause: Optional[float]) -> None:
+        if pause is not None:
+            if self.heard is not None:
+                self.heard(why, pause)
+            self.sleep(pause)
+
+    def _why(self, silence: Silence) -> str:
+        """Why there was no answer. Raises NoAnswer, or Foreign, where no other try helps."""
+        if isinstance(silence, TooLong):
+            raise Foreign(200, str(silence)) from silence
+        if not silence.passes:
+            raise self._no_answer(str(silence)) from silence
+        return str(silence)
+
+    def _no_answer(self, why: str) -> NoAnswer:
+        return NoAnswer(f"{self._peer.address.place}: {why}")
 
     # Changes
 
     def define(self, documents: bytes) -> Defined:
         """Define the objects of a text of OpenSLO documents."""
         told = self.ask("POST", ["objects"], body=documents)
-        return Defined(told["applied"], told["entry"])
+        return Defined(told.number("applied"), _entry(told))
 
     def remove(self, kind: str, name: str) -> Optional[int]:
         """Remove an object; its entry."""
@@ -214,9 +288,8 @@ class Office:
             raise ValueError(f"{len(rows)} rows are more than a batch has")
         body = "".join(row.line() + "\n" for row in rows).encode("ascii")
         told = self.ask("POST", ["samples"], body=body)
-        return Batch(
-            told["entry"], told["new"], told["newer"], told["repeated"], told["superseded"]
-        )
+        counts = map(told.number, ("new", "newer", "repeated", "superseded"))
+        return Batch(_entry(told), *counts)
 
     def upgrade(self) -> Optional[int]:
         """Let the office take withdrawn rows, and more of all rows; its entry."""
@@ -234,36 +307,11 @@ class Office:
     def tick(self) -> Ticked:
         """Judge all alerts. It is tried once, since a second tick is a change of its own."""
         told = self.ask("POST", ["tick"], pauses=Pauses(tries=1))
-        return Ticked(told["entry"], told["notices"])
+        return Ticked(_entry(told), told.number("notices"))
 
     def take(self, number: int) -> Optional[int]:
         """Take a notice; its entry, None where it was taken before."""
         return _entry(self.ask("POST", ["notices", number, "take"]))
-
-    # Queries
-
-    def objects(self) -> tuple[int, list[ObjectName]]:
-        """How many entries the history has, and the kinds and names of all objects."""
-        told = self.ask("GET", ["objects"])
-        return told["entries"], [ObjectName(o["kind"], o["name"]) for o in told["objects"]]
-
-    def object_text(self, kind: str, name: str) -> str:
-        """The document of an object, in the office's writing of YAML."""
-        answer = self.answer("GET", ["objects", kind, name])
-        if answer.status != 200:
-            raise _refusal(answer)
-        return answer.content.decode("utf-8")
-
-    def row(self, sli: str, source: str, minute: int) -> Optional[KeptRow]:
-        """The current row of a cell, None where it has none.
-
-        NotFound is raised for an unknown SLI, and by an office that hasn't this query.
-        """
-        row = self.ask("GET", ["samples", sli, source, minute])["row"]
-        if row is None:
-            return None
-        amount = row["amount"]
-        return KeptRow(row["revision"], None if amount is None else str(amount), row["total"])
 
     def is_upgraded(self, sli: str) -> bool:
         """Whether the office is upgraded. It is told by how a withdrawn row is refused whose minute
@@ -274,36 +322,43 @@ class Office:
             return refusal.word == "open_minute"
         return False
 
+    # Queries: questions.py says what each one answers.
+
+    def objects(self) -> tuple[int, list[ObjectName]]:
+        """How many entries the history has, and the kinds and names of all objects."""
+        return self.one(questions.objects())
+
+    def object_text(self, kind: str, name: str) -> str:
+        """The document of an object, in the office's writing of YAML."""
+        return self.one(questions.object_text(kind, name))
+
+    def row(self, sli: str, source: str, minute: int) -> Optional[KeptRow]:
+        """The current row of a cell, None where it has none.
+
+        NotFound is raised for an unknown SLI, and by an office that hasn't this query.
+        """
+        return self.one(questions.row(sli, source, minute))
+
     def notices(self) -> list[Notice]:
         """The first 1,000 notices that wait."""
-        told = self.ask("GET", ["notices"])
-        return [
-            Notice(n["number"], n["at"], n["slo"], n["objective"], n["policy"], n["state"])
-            for n in told["notices"]
-        ]
+        return self.one(questions.notices())
 
     def budgets(self, slo: str, at: Optional[int] = None) -> Budgets:
         """The budget of each objective, at the moment or at a minute."""
-        told = self.ask("GET", ["budgets", slo], _key("at", at))
-        return Budgets(told["at"], told["entries"], [budget_of(b) for b in told["budgets"]])
+        return self.one(questions.budgets(slo, at))
 
     def burn(self, slo: str, objective: int, lookback: str, at: Optional[int] = None) -> Burn:
         """The burn rate over a lookback as `1h`."""
-        keys: Keys = {"lookback": lookback, **_key("at", at)}
-        told = self.ask("GET", ["burns", slo, objective], keys)
-        burn = fraction(told["burn"])
-        return Burn(told["at"], told["entries"], told["num"], told["den"], burn)
+        return self.one(questions.burn(slo, objective, lookback, at))
 
     def alerts(self, slo: str, objective: int, policy: str, begin: int, end: int) -> Alerts:
         """When an alert was active in [begin, end), and its state at the moment."""
-        keys = {"from": begin, "to": end}
-        told = self.ask("GET", ["alerts", slo, objective, policy], keys)
-        return Alerts(told["entries"], [(i[0], i[1]) for i in told["intervals"]], told["state"])
+        return self.one(questions.alerts(slo, objective, policy, begin, end))
 
     def status(self) -> Optional[Members]:
         """How full the office is, None for an office that hasn't this query."""
         try:
-            return self.ask("GET", ["status"])
+            return self.one(questions.status())
         except NotFound:
             return None
 
@@ -311,59 +366,27 @@ class Office:
         self, slo: str, objective: int, begin: int, end: int, step: int
     ) -> list[tuple[int, int]]:
         """The sums of each step of [begin, end). NotFound where the office hasn't this query."""
-        keys = {"from": begin, "to": end, "step": step}
-        told = self.ask("GET", ["sums", slo, objective], keys)
-        return [(pair[0], pair[1]) for pair in told["sums"]]
+        return self.one(questions.sums(slo, objective, begin, end, step))
 
     def exclusions(self) -> list[Members]:
         """All exclusions. BadRequest or NotFound where the office hasn't this query."""
-        return list(self.ask("GET", ["exclusions"])["exclusions"])
+        return self.one(questions.exclusions())
+
+    def zones(self) -> list[str]:
+        """The names of the zones that were put. BadRequest or NotFound as for exclusions."""
+        return self.one(questions.zones())
 
 
-def _path(parts: Parts, keys: Optional[Keys]) -> str:
-    for text in [*parts, *(keys or {}).values()]:
-        if _PART.fullmatch(str(text)) is None:
-            raise ValueError(f"{text!r} can't stand in a request to the office")
-    path = "".join(f"/{part}" for part in parts)
-    if keys:
-        path += "?" + "&".join(f"{key}={value}" for key, value in keys.items())
-    return path
-
-
-def _key(name: str, value: Optional[int]) -> dict[str, Union[str, int]]:
-    return {} if value is None else {name: value}
-
-
-def _answer_of(answer: requests.Response) -> Answer:
+def _office_address(text: str) -> Address:
+    """An office's address: all paths begin with its own. Raises ValueError."""
     try:
-        members = answer.json()
-    except ValueError:
-        members = None
-    known = members if isinstance(members, dict) else None
-    return Answer(answer.status_code, known, answer.content, answer.headers.get("Date"))
+        address = address_of(text.rstrip("/"))
+    except ValueError as fault:
+        raise ValueError(f"the office's address {fault}") from None
+    if "?" in address.path:
+        raise ValueError("the office's address has a query (`?`), which no path can follow")
+    return address
 
 
-def _passes(answer: Answer) -> bool:
-    if answer.status == 500:
-        return answer.word == "disk_fault"
-    return answer.status in (502, 503, 504)
-
-
-def _refusal(answer: Answer) -> OfficeError:
-    kind = KINDS.get(answer.status)
-    if kind is None or answer.members is None or not answer.word:
-        return Foreign(answer.status, "no answer of an office")
-    return kind(answer.status, answer.members)
-
-
-def _why(fault: requests.RequestException) -> str:
-    if isinstance(fault, requests.Timeout):
-        return "no answer in time"
-    if isinstance(fault, requests.ConnectionError):
-        return "no connection"
-    return str(fault) or type(fault).__name__
-
-
-def _entry(told: Members) -> Optional[int]:
-    entry: Optional[int] = told["entry"]
-    return entry
+def _entry(told: Told) -> Optional[int]:
+    return told.number_or_none("entry")

@@ -37,11 +37,18 @@ class Refusal(OfficeError):
         super().__init__(f"{status} {self.word} {told}".rstrip())
 
     def number(self, name: str) -> int:
-        """A member that is a whole number, as `row`, `minute`, `revision`, `origin`, `moment`."""
-        return int(self.members[name])
+        """A member that is a whole number, as `row`, `minute`, `revision`, `origin`, `moment`.
+        Raises Foreign where it is none."""
+        value = self.members.get(name)
+        if not isinstance(value, int) or isinstance(value, bool):
+            raise Foreign(self.status, f"`{name}` of the refusal isn't a whole number")
+        return value
 
     def text(self, name: str) -> str:
-        """A member that is a text, as `name`, `kind`, `which`, `amount`."""
+        """A member that is a text, as `name`, `kind`, `which`, `amount`. Raises Foreign where it
+        isn't there."""
+        if name not in self.members:
+            raise Foreign(self.status, f"the refusal has no `{name}`")
         return str(self.members[name])
 
 

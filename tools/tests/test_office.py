@@ -51,6 +51,8 @@ class Scripted(unittest.TestCase):
                 status, told = case.answers.pop(0)
                 content = told if isinstance(told, bytes) else json.dumps(told).encode()
                 self.send_response(status)
+                if not isinstance(told, bytes):
+                    self.send_header("Content-Type", "application/json")
                 self.send_header("Content-Length", str(len(content)))
                 self.end_headers()
                 self.wfile.write(content)

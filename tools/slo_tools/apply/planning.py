@@ -76,7 +76,7 @@ def _kept_zones(office: Office) -> frozenset[str]:
     """The zones that an office says it keeps. One without that query keeps at least those of its
     calendars."""
     try:
-        return frozenset(office.ask("GET", ["zones"])["zones"])
+        return frozenset(office.zones())
     except NotFound:
         return frozenset()
 

@@ -7,8 +7,6 @@ from dataclasses import dataclass, field
 from fractions import Fraction
 from typing import Any, Optional
 
-import requests
-
 from slo_tools.answers import Budget
 from slo_tools.freshness import LONGEST, age_or_none, excluded_age, exclusions_of
 from slo_tools.notify.deciding import NO_DATA, QUIET, Binding, Present
@@ -29,10 +27,8 @@ class CountedOffice(Office):
 
     counted: Callable[[int], None] = lambda status: None
 
-    def _send(self, method: str, url: str, body: bytes) -> requests.Response:
-        answer = super()._send(method, url, body)
-        self.counted(answer.status_code)
-        return answer
+    def answered(self, status: int) -> None:
+        self.counted(status)
 
 
 @dataclass(frozen=True)
