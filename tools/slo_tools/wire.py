@@ -281,7 +281,9 @@ class Link:
         length = lengths.pop()
         if lengths or re.fullmatch(r"[0-9]{1,19}", length) is None:
             raise Silence("the answer's length is no number")
-        return self._exactly(int(length), most, end)
+        if int(length) > most:
+            raise TooLong(_long_text(most))
+        return self._exactly(int(length), end)
 
     def _chunks(self, fields: Mapping[str, str], most: int, end: float) -> bytes:
         if fields["transfer-encoding"].lower() != "chunked" or "content-length" in fields:
@@ -296,20 +298,20 @@ class Link:
                 while self._until(b"\r\n", LINE_BYTES, end):
                     pass
                 return bytes(content)
-            content += self._exactly(length, most - len(content), end)
-            if self._exactly(2, 2, end) != b"\r\n":
+            if len(content) + length > most:
+                raise TooLong(_long_text(most))
+            content += self._exactly(length, end)
+            if self._exactly(2, end) != b"\r\n":
                 raise Silence("the answer is cut into pieces of another form")
 
     def _rest(self, most: int, end: float) -> bytes:
         while self._more(end):
             if len(self._bytes) > most:
-                raise TooLong(f"the answer is longer than {most} bytes")
+                raise TooLong(_long_text(most))
         content, self._bytes = bytes(self._bytes), bytearray()
         return content
 
-    def _exactly(self, length: int, most: int, end: float) -> bytes:
-        if length > most:
-            raise TooLong(f"the answer is longer than {most} bytes")
+    def _exactly(self, length: int, end: float) -> bytes:
         while len(self._bytes) < length:
             if not self._more(end):
                 raise Silence(f"the answer was cut: {len(self._bytes)} of {length} bytes came")
@@ -321,9 +323,11 @@ class Link:
         while (at := self._bytes.find(mark, looked)) < 0:
             looked = max(0, len(self._bytes) - len(mark) + 1)
             if looked > most:
-                raise Silence("the answer's head is too long")
+                break
             if not self._more(end):
                 raise Silence("the answer was cut: the link was closed")
+        if not 0 <= at <= most:
+            raise Silence("the answer's head is too long")
         found = self._taken(at)
         del self._bytes[: len(mark)]
         return found
@@ -369,12 +373,25 @@ def _connected(peer: Peer, end: float) -> socket.socket:
     try:
         link.setsockopt(socket.IPPROTO_TCP, socket.TCP_NODELAY, 1)
         if address.scheme == "https":
+            trust = _trust(peer.verify)
             link.settimeout(_left(end))
-            link = tls_of(peer.verify).wrap_socket(link, server_hostname=address.host)
+            link = trust.wrap_socket(link, server_hostname=address.host)
     except (OSError, ValueError) as fault:
         link.close()
         raise _silence(fault) from fault
+    except Silence:
+        link.close()
+        raise
     return link
+
+
+def _trust(verify: Verify) -> ssl.SSLContext:
+    try:
+        return tls_of(verify)
+    except OSError as fault:
+        raise NotTrusted(
+            f"{verify} (`--ca`, or the key `ca`) is no file of certificates"
+        ) from fault
 
 
 def tls_of(verify: Verify) -> ssl.SSLContext:
@@ -390,6 +407,10 @@ def _tls(verify: Verify, _written: int) -> ssl.SSLContext:
         context.check_hostname = False
         context.verify_mode = ssl.CERT_NONE
     return context
+
+
+def _long_text(most: int) -> str:
+    return f"the answer is longer than {most} bytes"
 
 
 def _left(end: float) -> float:
