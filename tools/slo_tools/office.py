@@ -100,7 +100,7 @@ class Office:
     _link: Optional[Link] = field(default=None, init=False, repr=False)
 
     def __post_init__(self) -> None:
-        address = _office_address(self.address)
+        address = office_address(self.address)
         self._peer = Peer(address, self.credentials, self.token, self.verify, self.timeout)
 
     def answered(self, status: int) -> None:
@@ -377,7 +377,7 @@ class Office:
         return self.one(questions.zones())
 
 
-def _office_address(text: str) -> Address:
+def office_address(text: str) -> Address:
     """An office's address: all paths begin with its own. Raises ValueError."""
     try:
         address = address_of(text.rstrip("/"))

@@ -9,6 +9,8 @@ from dataclasses import dataclass
 from pathlib import Path
 from typing import Any, Optional, TypeVar, Union
 
+from slo_tools.wire import address_of, tls_of
+
 Read = TypeVar("Read")
 
 
@@ -64,6 +66,16 @@ class Table:
             raise self.fault(key, "is missing")
         return value
 
+    def address(self, key: str) -> str:
+        """An address as `http://127.0.0.1:8080`, without a password in it. What is told of one
+        that is none names the key alone: the rest of it may be a secret."""
+        text = self.wanted(key)
+        try:
+            address_of(text)
+        except ValueError as fault:
+            raise self.fault(key, str(fault)) from None
+        return text
+
     def file(self, key: str, folder: Path) -> Optional[Path]:
         """A path, from the folder of the configuration."""
         value = self.text(key)
@@ -97,14 +109,24 @@ class Table:
         certificate = self.file("ca", folder)
         if (user is None) != (password is None):
             raise self.fault("user", "and password_file go together")
+        if user is not None and token is not None:
+            raise self.fault("token_file", "and user: one of them")
         credentials = None
         if user is not None and password is not None:
             credentials = (user, _secret(password))
+        if certificate is not None:
+            self._trusted(certificate)
         return Login(
             credentials,
             None if token is None else _secret(token),
             True if certificate is None else str(certificate),
         )
+
+    def _trusted(self, certificate: Path) -> None:
+        try:
+            tls_of(str(certificate))
+        except OSError:
+            raise self.fault("ca", f"names no file of certificates: {certificate}") from None
 
     def end(self) -> None:
         """All keys were read. Raises ConfigFault where the file has another."""

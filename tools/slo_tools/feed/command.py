@@ -73,6 +73,7 @@ def office_of(config: Config) -> Office:
         config.office,
         credentials=login.credentials,
         verify=login.verify,
+        token=login.token,
         heard=lambda why, pause: LOG.info("the office: %s; again in %g s", why, pause),
     )
 

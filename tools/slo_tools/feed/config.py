@@ -65,7 +65,7 @@ def read_config(path: Path) -> Config:
 
 def _config(table: Table, folder: Path) -> Config:
     office = table.table("office")
-    address = office.wanted("address")
+    address = office.address("address")
     office_login = office.login(folder)
     office.end()
     feed = table.table("feed")

@@ -102,7 +102,7 @@ def _offices(table: Table, folder: Path) -> tuple[OfficeConfig, ...]:
         name = entry.wanted("name")
         if any(office.name == name for office in offices):
             raise entry.fault("name", f"{name!r} stands twice")
-        address = entry.wanted("address")
+        address = entry.address("address")
         path = entry.text("path") or "/office/"
         offices.append(OfficeConfig(name, address, path, entry.login(folder)))
         entry.end()
@@ -117,7 +117,7 @@ def _receiver(table: Table, folder: Path) -> ReceiverConfig:
         raise table.fault("alertmanager", "and webhook: one of them")
     for kind in kinds:
         entry = table.table(kind)
-        address = entry.wanted("address")
+        address = entry.address("address")
         if kind == "alertmanager":
             address = address.rstrip("/")
         login = entry.login(folder)

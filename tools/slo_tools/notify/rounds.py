@@ -82,6 +82,7 @@ class Rounds:
             pauses=Pauses(tries=2, first=0.2),
             credentials=config.login.credentials,
             verify=config.login.verify,
+            token=config.login.token,
             counted=lambda status: self.metrics.counted(config.name, status),
         )
         state = states.setdefault(config.name, OfficeState())
