@@ -6,14 +6,13 @@ from dataclasses import dataclass
 from functools import cached_property, lru_cache
 from typing import Any, Optional
 
-import yaml
-
+from slo_tools import questions
+from slo_tools.nodes import Fields, Items, Node, Scalar
 from slo_tools.office import Office
+from slo_tools.questions import Question
 from slo_tools.refusals import Foreign, NotFound
 from slo_tools.spelling import minutes_of_duration
-
-# Every scalar stays the text that it is: no number is rounded.
-_LOADER: Any = getattr(yaml, "CBaseLoader", yaml.BaseLoader)
+from slo_tools.yaml_reading import NotWritten, read_written
 
 
 @dataclass(frozen=True)
@@ -104,10 +103,23 @@ BUILT_IN = {
 def read_document(text: str) -> Document:
     """The object that the office writes as this text. Raises Foreign where it is no object."""
     try:
-        members = yaml.load(text, Loader=_LOADER)
-        return Document(members["kind"], members["metadata"]["name"], members)
-    except (yaml.YAMLError, KeyError, TypeError) as fault:
+        members = _plain(read_written(text))
+        kind, name = members["kind"], members["metadata"]["name"]
+    except (NotWritten, KeyError, TypeError) as fault:
         raise Foreign(200, f"the text is no object: {fault}") from fault
+    if not isinstance(kind, str) or not isinstance(name, str):
+        raise Foreign(200, "the text is no object: its kind or name is no text")
+    return Document(kind, name, members)
+
+
+def _plain(node: Node) -> Any:
+    """A node as maps, lists and texts: no number is rounded."""
+    if isinstance(node, Scalar):
+        return node.text
+    if isinstance(node, Items):
+        return [_plain(item) for item in node.items]
+    assert isinstance(node, Fields)
+    return {key.text: _plain(value) for key, value in node.entries}
 
 
 def map_of(value: Any) -> dict[str, Any]:
@@ -115,9 +127,22 @@ def map_of(value: Any) -> dict[str, Any]:
     return value if isinstance(value, dict) else {}
 
 
+def document(kind: str, name: str) -> Question[Document]:
+    """An object of an office, which has to be the one that is asked for."""
+    text = questions.object_text(kind, name)
+    return Question(text.path, lambda answer: named(read_document(text.read(answer)), kind, name))
+
+
+def named(found: Document, kind: str, name: str) -> Document:
+    """The object where it is of this kind and name. Raises Foreign."""
+    if (found.kind, found.name) != (kind, name):
+        raise Foreign(200, f"{found.kind} {found.name} came for {kind} {name}")
+    return found
+
+
 def object_of(office: Office, kind: str, name: str) -> Document:
     """An object of an office, asked of it."""
-    return read_document(office.object_text(kind, name))
+    return named(read_document(office.object_text(kind, name)), kind, name)
 
 
 def slo_of(office: Office, name: str) -> Slo:

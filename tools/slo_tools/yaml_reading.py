@@ -1,4 +1,6 @@
-"""YAML of any form, read into nodes: what the office's profile leaves out is resolved here."""
+"""YAML, read into nodes: a text of any form, where what the office's profile leaves out is resolved
+here, and the office's own writing of an object (docs/yaml.md), which PyYAML doesn't always take:
+an office holds characters that YAML doesn't print, and some that PyYAML takes for a line's end."""
 
 from __future__ import annotations
 
@@ -22,6 +24,12 @@ STANDARD = frozenset(
 DOCUMENT_START = re.compile(r"^---(?=\s|$)", re.MULTILINE)
 LOADER: Any = getattr(yaml, "CSafeLoader", yaml.SafeLoader)
 
+_QUOTED = r'"(?:[^"\\]|\\["\\nt])*"'
+_ENTRY = re.compile(rf"([A-Za-z]+|{_QUOTED}):(?: (.+))?", re.DOTALL)
+_WHOLE_QUOTED = re.compile(_QUOTED, re.DOTALL)
+_ESCAPE = re.compile(r"\\(.)", re.DOTALL)
+_ESCAPED = {"n": "\n", "t": "\t"}
+
 
 @dataclass
 class Reading:
@@ -42,6 +50,95 @@ def read_yaml(text: str) -> Reading:
         _read_piece(piece, line, reading)
         line += piece.count("\n")
     return reading
+
+
+class NotWritten(ValueError):
+    """A text that isn't as an office writes an object."""
+
+
+def read_written(text: str) -> Fields:
+    """An object in the office's own writing, every character as it is held. Raises NotWritten."""
+    *lines, rest = text.split("\n")
+    if rest or not lines:
+        raise NotWritten("it doesn't end with a line's end")
+    reader = _Written(lines)
+    node = reader.node(0, 1)
+    if reader.at != len(lines) or not isinstance(node, Fields):
+        raise NotWritten(f"line {reader.at + 1} has no place")
+    return node
+
+
+class _Written:
+    """The lines of a canonical writing; a line that begins behind a dash stands deeper by two."""
+
+    def __init__(self, lines: list[str]) -> None:
+        self.lines = [(len(line) - len(line.lstrip(" ")), line.lstrip(" ")) for line in lines]
+        self.at = 0
+
+    def node(self, indent: int, depth: int) -> Node:
+        """The map or list whose lines stand at an indentation, from the present line on."""
+        if depth > MAX_DEPTH:
+            raise NotWritten(f"maps and lists are nested above {MAX_DEPTH} deep")
+        place = self._place()
+        if self._is_dash(indent):
+            items: list[Node] = []
+            while self._is_dash(indent):
+                items.append(self._item(indent, depth))
+            return Items(place, tuple(items))
+        entries: dict[str, tuple[Scalar, Node]] = {}
+        while self.at < len(self.lines) and self.lines[self.at][0] == indent:
+            key, value = self._entry(indent, depth)
+            if key.text in entries:
+                raise NotWritten(f"line {key.place.line}: the key {key.text} stands twice")
+            entries[key.text] = key, value
+        return Fields(place, tuple(entries.values()))
+
+    def _is_dash(self, indent: int) -> bool:
+        if self.at == len(self.lines) or self.lines[self.at][0] != indent:
+            return False
+        return self.lines[self.at][1] == "-" or self.lines[self.at][1].startswith("- ")
+
+    def _item(self, indent: int, depth: int) -> Node:
+        rest = self.lines[self.at][1][2:]
+        self.lines[self.at] = (indent + 2, rest)
+        if self._is_dash(indent + 2) or _ENTRY.fullmatch(rest):
+            return self.node(indent + 2, depth + 1)
+        return self._value(rest)
+
+    def _entry(self, indent: int, depth: int) -> tuple[Scalar, Node]:
+        place = self._place()
+        found = _ENTRY.fullmatch(self.lines[self.at][1])
+        if found is None:
+            raise NotWritten(f"line {place.line} is no entry")
+        key = _scalar(found[1], place)
+        if found[2] is not None:
+            return key, self._value(found[2])
+        self.at += 1
+        if self.at < len(self.lines) and self.lines[self.at][0] == indent + 2:
+            return key, self.node(indent + 2, depth + 1)
+        return key, Scalar(place, "", True)
+
+    def _value(self, text: str) -> Node:
+        place = self._place()
+        self.at += 1
+        if text == "{}":
+            return Fields(place, ())
+        return Items(place, ()) if text == "[]" else _scalar(text, place)
+
+    def _place(self) -> Place:
+        if self.at == len(self.lines):
+            raise NotWritten("it ends too early")
+        return Place(self.at + 1, self.lines[self.at][0] + 1)
+
+
+def _scalar(text: str, place: Place) -> Scalar:
+    if text[:1] != '"':
+        return Scalar(place, text, True)
+    if _WHOLE_QUOTED.fullmatch(text) is None:
+        raise NotWritten(f"line {place.line} has a quoted text of another form")
+    return Scalar(
+        place, _ESCAPE.sub(lambda found: _ESCAPED.get(found[1], found[1]), text[1:-1]), False
+    )
 
 
 def _pieces(text: str) -> list[str]:

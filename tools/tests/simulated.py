@@ -4,11 +4,14 @@ from __future__ import annotations
 
 from collections.abc import Sequence
 from dataclasses import dataclass, field
+from functools import lru_cache
 from typing import Optional
 
 from slo_tools.answers import Batch, Budgets, KeptRow, ObjectName, SampleRow
+from slo_tools.apply.profile import written
 from slo_tools.feed.prometheus import Values
 from slo_tools.refusals import Conflict, Members, NoAnswer, NotFound, Unprocessable
+from slo_tools.yaml_reading import read_yaml
 
 
 @dataclass
@@ -67,6 +70,12 @@ class SimulatedPrometheus:
 CELL = tuple[str, str, int]
 # The amount of a withdrawn row, as a conflict tells it.
 WITHDRAWN = "withdrawn"
+
+
+@lru_cache(maxsize=4096)
+def as_an_office_writes(text: str) -> str:
+    """A document in the office's own writing."""
+    return written(read_yaml(text).documents[0])
 
 
 @dataclass
@@ -170,7 +179,7 @@ class SimulatedOffice:
         return self.entries, names
 
     def object_text(self, kind: str, name: str) -> str:
-        return self.texts[f"{kind}/{name}"]
+        return as_an_office_writes(self.texts[f"{kind}/{name}"])
 
     def budgets(self, slo: str) -> Budgets:
         return Budgets(int(self.clock.now() // 60), self.entries, [])
