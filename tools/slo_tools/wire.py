@@ -12,6 +12,8 @@ byte a second, never end, or send another place to ask at. So
 from __future__ import annotations
 
 import base64
+import http.client
+import io
 import os
 import re
 import select
@@ -21,7 +23,7 @@ import time
 from collections.abc import Iterator, Mapping, Sequence
 from dataclasses import dataclass
 from functools import lru_cache
-from typing import Optional, Union
+from typing import Any, Optional, Union, cast
 from urllib.parse import urlsplit
 
 Verify = Union[bool, str]
@@ -31,17 +33,14 @@ Verify = Union[bool, str]
 ANSWER_BYTES = 8 * 1024 * 1024
 # The answers to questions that are asked together: four times the texts of all objects.
 TOGETHER_BYTES = 64 * 1024 * 1024
-HEAD_BYTES = 65_536
-LINE_BYTES = 8_192
 # Interim answers (100, 103) before the one that counts.
 INTERIM = 10
+# How much is read of a link at once.
+PIECE_BYTES = 65_536
 # Requests that are written ahead of their answers: so few bytes that the least buffers of two
 # machines hold them, and neither side waits for the other to read first.
 AHEAD_BYTES = 16_384
 
-_STATUS = re.compile(rb"HTTP/1\.([01]) ([1-5]\d\d)(?: [^\r\n]*)?")
-_FIELD = re.compile(rb"([!#$%&'*+.^_`|~0-9A-Za-z-]+):[ \t]*([^\r\n\0]*?)[ \t]*")
-_CHUNK = re.compile(rb"([0-9A-Fa-f]{1,15})[ \t]*(?:;[^\r\n]*)?")
 _TARGET = re.compile(r"[!-~]*")
 _HOST = re.compile(r"[A-Za-z0-9._:%-]+")
 # OpenSSL's numbers of a certificate that nobody known has signed, and of one of another host.
@@ -194,14 +193,51 @@ class Reply:
         return self.content
 
 
+class _Incoming(io.RawIOBase):
+    """What comes on a link, up to the end of the time that an answer has."""
+
+    def __init__(self, link: socket.socket) -> None:
+        self.end = 0.0
+        self._socket = link
+
+    def readable(self) -> bool:
+        return True
+
+    def readinto(self, room: Any) -> int:
+        self._socket.settimeout(_left(self.end))
+        return self._socket.recv_into(room)
+
+
+class _Kept(io.BufferedReader):
+    """The bytes of a link, for one answer behind another: the end of one closes nothing. A line that
+    the link's end cuts is none, but where no answer has begun."""
+
+    has_begun = False
+
+    def close(self) -> None:
+        pass
+
+    def readline(self, most: Optional[int] = -1) -> bytes:
+        line = super().readline(most)
+        if not line.endswith(b"\n") and len(line) != most and (line or self.has_begun):
+            raise Silence("the answer was cut: the link was closed")
+        self.has_begun = True
+        return line
+
+    def makefile(self, mode: str) -> _Kept:
+        """What an answer asks its socket for."""
+        return self
+
+
 class Link:
     """An open link. Whatever fails on it raises Silence, and the link is of no use from then on."""
 
     def __init__(self, peer: Peer, end: float) -> None:
         self.answers = 0
         self.is_ended = False
-        self._bytes = bytearray()
         self._socket = _connected(peer, end)
+        self._incoming = _Incoming(self._socket)
+        self._bytes = _Kept(self._incoming, PIECE_BYTES)
 
     def close(self) -> None:
         self.is_ended = True
@@ -209,7 +245,7 @@ class Link:
 
     def is_quiet(self) -> bool:
         """Whether the link can be used once more: it is open, and nothing came unasked."""
-        if self.is_ended or self._bytes:
+        if self.is_ended:
             return False
         door = select.poll()
         door.register(self._socket, select.POLLIN)
@@ -251,117 +287,65 @@ class Link:
         except Silence:
             self.is_ended = True
             raise
+        except (OSError, ValueError, http.client.HTTPException) as fault:
+            self.is_ended = True
+            raise _silence(fault) from fault
 
     def _reply(self, method: str, most: int, end: float) -> Reply:
-        if not self._bytes and not self._more(end):
-            raise Silence("no answer: the link was closed")
-        for _ in range(INTERIM):
-            version, status, fields = _head(self._until(b"\r\n\r\n", HEAD_BYTES, end))
-            if status >= 200:
-                break
-        else:
-            raise Silence("the answer doesn't begin")
-        closes = "close" in fields.get("connection", "").lower().replace(" ", "").split(",")
-        if closes or version == 0:
+        self._incoming.end = end
+        answer = self._begun(method)
+        fields = _fields_of(answer)
+        if answer.will_close:
             self.is_ended = True
         self.answers += 1
-        if fields.get("content-encoding", "identity").lower() not in ("", "identity"):
-            raise Silence("the answer is encoded, though it was asked for as it is")
-        if method == "HEAD" or status in (204, 304):
-            return Reply(status, fields, b"")
-        if "transfer-encoding" in fields:
-            return Reply(status, fields, self._chunks(fields, most, end))
-        if "content-length" in fields:
-            return Reply(status, fields, self._measured(fields["content-length"], most, end))
-        self.is_ended = True
-        return Reply(status, fields, self._rest(most, end), is_measured=False)
+        is_measured = answer.length is not None or answer.chunked
+        return Reply(answer.status, fields, _content_of(answer, most), is_measured)
 
-    def _measured(self, told: str, most: int, end: float) -> bytes:
-        lengths = {length.strip() for length in told.split(",")}
-        length = lengths.pop()
-        if lengths or re.fullmatch(r"[0-9]{1,19}", length) is None:
-            raise Silence("the answer's length is no number")
-        if int(length) > most:
-            raise TooLong(_long_text(most))
-        return self._exactly(int(length), end)
-
-    def _chunks(self, fields: Mapping[str, str], most: int, end: float) -> bytes:
-        if fields["transfer-encoding"].lower() != "chunked" or "content-length" in fields:
-            raise Silence("the answer says its length in two ways, or in an unknown one")
-        content = bytearray()
-        while True:
-            found = _CHUNK.fullmatch(self._until(b"\r\n", LINE_BYTES, end))
-            if found is None:
-                raise Silence("the answer is cut into pieces of another form")
-            length = int(found[1], 16)
-            if length == 0:
-                while self._until(b"\r\n", LINE_BYTES, end):
-                    pass
-                return bytes(content)
-            if len(content) + length > most:
-                raise TooLong(_long_text(most))
-            content += self._exactly(length, end)
-            if self._exactly(2, end) != b"\r\n":
-                raise Silence("the answer is cut into pieces of another form")
-
-    def _rest(self, most: int, end: float) -> bytes:
-        while self._more(end):
-            if len(self._bytes) > most:
-                raise TooLong(_long_text(most))
-        content, self._bytes = bytes(self._bytes), bytearray()
-        return content
-
-    def _exactly(self, length: int, end: float) -> bytes:
-        while len(self._bytes) < length:
-            if not self._more(end):
-                raise Silence(f"the answer was cut: {len(self._bytes)} of {length} bytes came")
-        return self._taken(length)
-
-    def _until(self, mark: bytes, most: int, end: float) -> bytes:
-        """The bytes before a mark, which is passed over."""
-        looked = 0
-        while (at := self._bytes.find(mark, looked)) < 0:
-            looked = max(0, len(self._bytes) - len(mark) + 1)
-            if looked > most:
-                break
-            if not self._more(end):
-                raise Silence("the answer was cut: the link was closed")
-        if not 0 <= at <= most:
-            raise Silence("the answer's head is too long")
-        found = self._taken(at)
-        del self._bytes[: len(mark)]
-        return found
-
-    def _taken(self, length: int) -> bytes:
-        found = bytes(memoryview(self._bytes)[:length])
-        del self._bytes[:length]
-        return found
-
-    def _more(self, end: float) -> bool:
-        """Reads what has come; false where the other side has closed the link."""
-        try:
-            self._socket.settimeout(_left(end))
-            came = self._socket.recv(65_536)
-        except OSError as fault:
-            raise _silence(fault) from fault
-        self._bytes += came
-        return bool(came)
+    def _begun(self, method: str) -> http.client.HTTPResponse:
+        """An answer behind its head, which interim ones (100, 103) may come before."""
+        for _ in range(INTERIM):
+            self._bytes.has_begun = False
+            # the answer asks for nothing of a socket but its bytes
+            answer = http.client.HTTPResponse(cast(socket.socket, self._bytes), method=method)
+            answer.begin()
+            if answer.status >= 200:
+                return answer
+        raise Silence("the answer doesn't begin")
 
 
-def _head(text: bytes) -> tuple[int, int, dict[str, str]]:
-    """HTTP's minor version, the status and the fields; those of one name are joined."""
-    first, *lines = text.split(b"\r\n")
-    told = _STATUS.fullmatch(first)
-    if told is None:
-        raise Silence("no answer of HTTP")
+def _fields_of(answer: http.client.HTTPResponse) -> dict[str, str]:
+    """The fields of an answer's head, where these say in one way how long it is."""
     fields: dict[str, str] = {}
-    for line in lines:
-        found = _FIELD.fullmatch(line)
-        if found is None:
+    if answer.headers.defects:
+        raise Silence("the answer's head has another form")
+    for name, value in answer.getheaders():
+        if "\n" in value:
             raise Silence("the answer's head has another form")
-        name, value = found[1].decode("ascii").lower(), found[2].decode("latin-1")
+        name = name.lower()
         fields[name] = f"{fields[name]}, {value}" if name in fields else value
-    return int(told[1]), int(told[2]), fields
+    length = fields.get("content-length", "0")
+    if re.fullmatch(r"[0-9]{1,19}", length) is None:
+        raise Silence("the answer's length is no number")
+    coding = fields.get("transfer-encoding", "chunked").lower()
+    if coding != "chunked" or ("transfer-encoding" in fields and "content-length" in fields):
+        raise Silence("the answer says its length in two ways, or in an unknown one")
+    if fields.get("content-encoding", "identity").lower() not in ("", "identity"):
+        raise Silence("the answer is encoded, though it was asked for as it is")
+    return fields
+
+
+def _content_of(answer: http.client.HTTPResponse, most: int) -> bytes:
+    """All of an answer's content, where it is no longer than that."""
+    if answer.length is not None:
+        if answer.length > most:
+            raise TooLong(_long_text(most))
+        return answer.read()
+    content = bytearray()
+    while piece := answer.read(PIECE_BYTES):
+        content += piece
+        if len(content) > most:
+            raise TooLong(_long_text(most))
+    return bytes(content)
 
 
 def _connected(peer: Peer, end: float) -> socket.socket:
@@ -425,6 +409,17 @@ def _silence(fault: Exception) -> Silence:
         return NotTrusted(_certificate_text(fault))
     if isinstance(fault, TimeoutError):
         return Silence("no answer in time")
+    if isinstance(fault, http.client.RemoteDisconnected):
+        return Silence("no answer: the link was closed")
+    if isinstance(fault, http.client.IncompleteRead):
+        came = len(fault.partial)
+        if fault.expected is None:
+            return Silence(f"the answer was cut behind {came} bytes, or its pieces have no length")
+        return Silence(f"the answer was cut: {came} of {came + fault.expected} bytes came")
+    if isinstance(fault, http.client.LineTooLong):
+        return Silence("the answer's head is too long")
+    if isinstance(fault, (http.client.HTTPException, ValueError)):
+        return Silence("no answer of HTTP")
     if isinstance(fault, ssl.SSLError):
         return Silence(f"no connection: TLS fails ({fault.reason or 'the link was closed'})")
     return Silence("no connection")

@@ -94,7 +94,8 @@ class WireTest(unittest.TestCase):
             (b"HTTP/1.1 200 OK\r\n folded: 1\r\nContent-Length: 26", "another form"),
             (b"SSH-2.0-OpenSSH_9.2", "no answer of HTTP"),
             (b"HTTP/1.1 200 OK\r\nLong: " + b"x" * 70_000, "too long"),
-            (b"HTTP/1.1 100 Continue\r\n\r\n" * 20, "doesn't begin"),
+            (b"HTTP/1.1 100 Continue\r\n\r\n" * 20, "no answer of HTTP"),
+            (b"HTTP/1.1 103 Early Hints\r\n\r\n" * 20, "doesn't begin"),
         ):
             with self.subTest(head=head[:80]):
                 self.assertIn(why, self.silence(says(head + body)))
