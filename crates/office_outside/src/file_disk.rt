@@ -15,10 +15,11 @@ use std::rt::Files;
 /// locked: where there is no file it reads as an empty one, and beside a program that changes it as
 /// far as that came.
 ///
-/// A sync that failed may have lost what was written before it, and a later one wouldn't tell; and
-/// what is written to a file that was moved away, put in another's place or cut is written for
-/// nobody. So where a sync fails, or the name no longer stands for the file that was opened, the
-/// disk is lost: each call fails from then on, until the file is opened anew.
+/// A sync that failed may have lost what was written before it, and a later one wouldn't tell; what
+/// is written to a file that was moved away, put in another's place or cut is written for nobody;
+/// and what goes into a file that others wrote goes into their bytes. So where a sync fails, the
+/// name no longer stands for the file that was opened, or that file was last written by others,
+/// the disk is lost: each call fails from then on, until the file is opened anew.
 #[derive(Drop)]
 pub struct FileDisk<R: Files<File = File> + Drop> {
     rt: R,
@@ -134,7 +135,7 @@ fn opened<'a, R: Files<File = File>>(
     }
 }
 
-/// Whether the name still stands for the file, where it was opened.
+/// Whether the name still stands for the file as it was left, where it was opened.
 fn stands<R: Files<File = File>>(rt: &R, slot: &Option<OpenedFile>) -> bool {
     match slot {
         Some(file) => file.stands(rt),

@@ -1,4 +1,4 @@
-//! Which file it is, whatever its name.
+//! Which file it is, whatever its name, and how the last writing left it.
 use std::fs::{self, File, Metadata};
 use std::os::unix::fs::MetadataExt;
 use std::rt::Files;
@@ -23,6 +23,26 @@ impl Identity {
         Identity {
             device: found.dev(),
             number: found.ino(),
+        }
+    }
+}
+
+/// What the last writing into a file leaves to be seen: its moment and the file's length. A new mode,
+/// owner or name of the file changes neither.
+#[derive(Clone, Copy, Debug, PartialEq, Eq)]
+pub struct Trace {
+    seconds: i64,
+    nanoseconds: i64,
+    length: u64,
+}
+
+impl Trace {
+    /// That of the file which was looked at.
+    pub fn of(found: &Metadata) -> Trace {
+        Trace {
+            seconds: found.mtime(),
+            nanoseconds: found.mtime_nsec(),
+            length: found.len(),
         }
     }
 }

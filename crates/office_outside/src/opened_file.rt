@@ -1,8 +1,8 @@
 //! The file of a disk, once it was opened.
 ghost use Rattle.std.specs.Prelude.{◌≡◌, ◌≤◌, length, IfOk};
 
-use crate::identity::{Identity, is_standard, is_told};
-use std::fs::{self, File, OpenOptions};
+use crate::identity::{Identity, Trace, is_standard, is_told};
+use std::fs::{self, File, Metadata, OpenOptions};
 use std::io::{self, ErrorKind};
 use std::os::unix::fs::FileExt;
 use std::rt::Files;
@@ -18,6 +18,10 @@ const FOLDER: &str = ".";
 const AGAIN: u64 = 3_145_728;
 
 const PIECE: usize = 16_384;
+
+/// Where a journal's first record begins: behind the header's 13 bytes and the first gate. What is
+/// written in front of it makes a journal, of a file that may be anybody's.
+const RECORDS: u64 = 14;
 
 /// Whether the program's error output is the file of this name.
 pub fn is_error_output<R: Files<File = File>>(rt: &R) -> bool {
@@ -43,12 +47,16 @@ pub enum OpenedFile {
 pub struct ChangingFile {
     file: File,
     identity: Identity,
+    /// As the last own write left the file, or else the opening; none where it wasn't told.
+    trace: Option<Trace>,
     /// The greatest end of what was read.
     read_end: u64,
     /// The greatest end of what was read or written.
     end: u64,
     /// What was read has been written again, and synced.
     rests: bool,
+    /// What stood behind the journal has been cut off.
+    is_cut: bool,
 }
 
 impl OpenedFile {
@@ -63,14 +71,16 @@ impl OpenedFile {
         if file.try_lock().is_err() {
             return Err(ErrorKind::WouldBlock.into());
         }
-        let identity = identity_of(rt, &file)?;
+        let found = plain_file(rt, &file)?;
         File::open(rt, FOLDER)?.sync_all()?;
         Ok(OpenedFile::Changing(ChangingFile {
             file,
-            identity,
+            identity: Identity::of(&found),
+            trace: Some(Trace::of(&found)),
             read_end: 0,
             end: 0,
             rests: false,
+            is_cut: false,
         }))
     }
 
@@ -82,12 +92,12 @@ impl OpenedFile {
             Err(error) if error.kind() == ErrorKind::NotFound => return Ok(OpenedFile::Missing),
             Err(error) => return Err(error),
         };
-        identity_of(rt, &file)?;
+        plain_file(rt, &file)?;
         Ok(OpenedFile::Reading(file))
     }
 
-    /// Whether the name still stands for the file, and the file reaches as far as it was read and
-    /// written. One that isn't changed needs neither.
+    /// Whether the name still stands for the file, nobody else wrote into it, and it reaches as far
+    /// as it was read and written. One that isn't changed needs none of these.
     pub fn stands<R: Files<File = File>>(&self, rt: &R) -> bool {
         match self {
             OpenedFile::Changing(changing) => changing.stands(rt),
@@ -127,7 +137,11 @@ impl OpenedFile {
 impl ChangingFile {
     fn stands<R: Files<File = File>>(&self, rt: &R) -> bool {
         match fs::metadata(rt, NAME) {
-            Ok(found) => Identity::of(&found) == self.identity && self.end <= found.len(),
+            Ok(found) => {
+                Identity::of(&found) == self.identity
+                    && Some(Trace::of(&found)) == self.trace
+                    && self.end <= found.len()
+            }
             Err(_) => false,
         }
     }
@@ -144,9 +158,43 @@ impl ChangingFile {
     }
 
     fn write(&mut self, at: u64, piece: &[u8]) -> io::Result<()> {
+        let outcome = self.put(at, piece);
+        self.remember();
+        outcome
+    }
+
+    /// Writes all of the piece. The first record that is written cuts off what stands behind it.
+    fn put(&mut self, at: u64, piece: &[u8]) -> io::Result<()> {
+        if at >= RECORDS && !self.is_cut {
+            self.cut(at)?;
+        }
         self.file.write_all_at(piece, at)?;
         self.end = self.end.max(at.saturating_add(piece.len() as u64));
         Ok(())
+    }
+
+    /// Cuts the file where it reaches further than `at`.
+    ///
+    /// A record is written right behind the closed gate that ends the journal, so what is cut off
+    /// stands for nothing. It may be what an earlier program wrote and the disk refused. Where ext4
+    /// has given a file new blocks and the first writing of them fails, it leaves them marked as
+    /// without content on the disk, while their pages in the cache count as written: what is
+    /// written there later is synced with success, reads well as long as the cache has it, and
+    /// reads as zeros from the disk. The cut frees these blocks and drops their pages, so that no
+    /// record stands in them.
+    fn cut(&mut self, at: u64) -> io::Result<()> {
+        if self.file.metadata()?.len() > at {
+            self.file.set_len(at)?;
+        }
+        self.read_end = self.read_end.min(at);
+        self.end = self.end.min(at);
+        self.is_cut = true;
+        Ok(())
+    }
+
+    /// Remembers how the file looks behind an own write; one that failed may have changed it too.
+    fn remember(&mut self) {
+        self.trace = self.file.metadata().ok().map(|found| Trace::of(&found));
     }
 
     /// Syncs the file's bytes; the first time that some were read, these are written again before.
@@ -157,7 +205,9 @@ impl ChangingFile {
     /// The same bytes over the same bytes change nothing, whenever a stop comes.
     fn sync(&mut self) -> io::Result<()> {
         if !self.rests && self.read_end > 0 {
-            write_again(&self.file, self.read_end)?;
+            let outcome = write_again(&self.file, self.read_end);
+            self.remember();
+            outcome?;
             self.file.sync_data()?;
             self.rests = true;
             return Ok(());
@@ -175,15 +225,14 @@ fn open_to_read<R: Files<File = File>>(rt: &R) -> io::Result<File> {
     File::open(rt, NAME)
 }
 
-/// Which file it is. One that isn't a plain file is refused, and so is one that is the program's
+/// How the file looks. One that isn't a plain file is refused, and so is one that is the program's
 /// own input, output or error output: what the program says would be written into it.
-fn identity_of<R: Files<File = File>>(rt: &R, file: &File) -> io::Result<Identity> {
+fn plain_file<R: Files<File = File>>(rt: &R, file: &File) -> io::Result<Metadata> {
     let found = file.metadata()?;
-    let identity = Identity::of(&found);
-    if !found.is_file() || is_standard(rt, identity) {
+    if !found.is_file() || is_standard(rt, Identity::of(&found)) {
         return Err(ErrorKind::InvalidInput.into());
     }
-    Ok(identity)
+    Ok(found)
 }
 
 fn read_whole(file: &File, at: u64, piece: &mut [u8]) -> io::Result<usize>
