@@ -27,8 +27,8 @@ impl Identity {
     }
 }
 
-/// What the last writing into a file leaves to be seen: its moment and the file's length. A new mode,
-/// owner or name of the file changes neither.
+/// What the last writing into a file leaves to be seen: its moment and the file's length. A new
+/// mode, owner or name of the file changes neither.
 #[derive(Clone, Copy, Debug, PartialEq, Eq)]
 pub struct Trace {
     seconds: i64,
