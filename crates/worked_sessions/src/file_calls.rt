@@ -4,6 +4,7 @@
 use crate::series::push_lines;
 use office_outside::{Clock, Disk, Failed, FileDisk, WallClock};
 use std::alloc::AllocError;
+use std::os::unix::fs::MetadataExt;
 use std::rt::{self, Files};
 use std::time::{SystemTime, UNIX_EPOCH};
 use std::{fs, io, str};
@@ -76,6 +77,28 @@ fn replace<R: Files>(rt: &R) -> io::Result<()> {
     fs::rename(rt, OTHER, NAME)
 }
 
+/// The number of tries in which the file system's clock is taken to have moved on.
+const TRIES: u32 = 1_000_000;
+
+/// When the file of a name was written last.
+fn written_at<R: Files>(rt: &R, name: &str) -> io::Result<(i64, i64)> {
+    let found = fs::metadata(rt, name)?;
+    Ok((found.mtime(), found.mtime_nsec()))
+}
+
+/// Waits until what is written has another time of modification than the disk's file: the clock of
+/// a file system may stand for some milliseconds.
+fn wait_for_the_clock<R: Files>(rt: &R) -> io::Result<()> {
+    let before = written_at(rt, NAME)?;
+    for _ in 0..TRIES {
+        fs::write(rt, OTHER, "later")?;
+        if written_at(rt, OTHER)? != before {
+            break;
+        }
+    }
+    fs::remove_file(rt, OTHER)
+}
+
 /// What others do to the file.
 fn do_to_file<R: Files>(rt: &R, deed: &str, text: &str) -> io::Result<()> {
     match deed {
@@ -84,6 +107,7 @@ fn do_to_file<R: Files>(rt: &R, deed: &str, text: &str) -> io::Result<()> {
         "move" => fs::rename(rt, NAME, AWAY),
         "back" => fs::rename(rt, AWAY, NAME),
         "replace" => replace(rt),
+        "later" => wait_for_the_clock(rt),
         "folder" => fs::create_dir(rt, NAME),
         _ => fs::remove_dir(rt, NAME),
     }
