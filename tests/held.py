@@ -23,8 +23,8 @@ SYSGOOD, EXITKILL = 1, 0x100000
 AT_IGNORE, AT_SYSINFO_EHDR = 1, 33
 REGISTERS = ("r15 r14 r13 r12 rbp rbx r11 r10 r9 r8 rax rcx rdx rsi rdi orig_rax rip cs eflags rsp ss fs_base gs_base"
              " ds es fs gs").split()
-NUMBERS = {0: "read", 1: "write", 9: "mmap", 12: "brk", 17: "pread64", 18: "pwrite64", 74: "fsync", 75: "fdatasync", 228: "clock_gettime"}
-DISK = ("pread64", "pwrite64", "fsync", "fdatasync")
+NUMBERS = {0: "read", 1: "write", 9: "mmap", 12: "brk", 17: "pread64", 18: "pwrite64", 74: "fsync", 75: "fdatasync", 77: "ftruncate", 228: "clock_gettime"}
+DISK = ("pread64", "pwrite64", "fsync", "fdatasync", "ftruncate")
 KILL = "kill"
 # A run that takes longer is ended.
 MOST_SECONDS = 600

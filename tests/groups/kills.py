@@ -74,6 +74,30 @@ def upgrades(report: Report, origin: int) -> None:
                     try_upgrade(report, origin, call, number, fate)
 
 
+def try_cut(report: Report, origin: int, call: str, number: int, fate: int | str, cut: bool) -> None:
+    """A change over a file with bytes behind its closed gate, which are there or cut off behind the fault."""
+    office = Office(report.program, report.folder(f"cut-{call}-{number}-{fate}"), origin)
+    office.ask([message("POST", "/tick")])
+    before, whole = commands(office), office.journal.read_bytes()
+    office.journal.write_bytes(whole + b"left" * 1000)
+    data = define(objects.service("shop"))
+    ran = held.run(report.program, ["pipe"], office.folder, data, held.Outside(faults={(call, number): fate}))
+    assert b"HTTP/1.1 200" not in ran.output and ran.calls["ftruncate"] == 1, ran
+    assert office.journal.read_bytes() == whole + (b"" if cut else b"left" * 1000)
+    again = office.run("pipe", data=data)
+    assert again.returncode == 0 and again.stdout.startswith(b"HTTP/1.1 200"), again
+    assert commands(office)[:-1] == before, "another history behind the second run"
+    assert office.journal.stat().st_size == len(whole) + 5 + len(office.records()[-1]), "what was left is there"
+
+
+def cuts(report: Report, origin: int) -> None:
+    """Stops and faults at the cut behind the closed gate, and at the write behind the cut: the opening makes one."""
+    for name, fate in FATES:
+        with report.case(f"{name} at the cut behind the closed gate, and at the write behind it"):
+            try_cut(report, origin, "ftruncate", 0, fate, False)
+            try_cut(report, origin, "pwrite64", 1, fate, True)
+
+
 def run(report: Report) -> None:
     origin = minute_now() - 100_000
     data = session(origin)
@@ -93,3 +117,4 @@ def run(report: Report) -> None:
                 for number in range(ran.calls[call]):
                     try_fault(report, origin, data, wanted, call, number, fate)
     upgrades(report, origin)
+    cuts(report, origin)
