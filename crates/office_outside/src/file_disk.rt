@@ -20,6 +20,9 @@ use std::rt::Files;
 /// and what goes into a file that others wrote goes into their bytes. So where a sync fails, the
 /// name no longer stands for the file that was opened, or that file was last written by others,
 /// the disk is lost: each call fails from then on, until the file is opened anew.
+///
+/// It serves a journal, whose bytes behind the closed gate stand for nothing: the first record that
+/// is written after an opening cuts the file at its place.
 #[derive(Drop)]
 pub struct FileDisk<R: Files<File = File> + Drop> {
     rt: R,
