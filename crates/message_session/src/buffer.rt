@@ -123,6 +123,7 @@ impl Buffer {
     {
         self.end = move_to_front(&mut self.bytes, self.start, self.end);
         self.start = 0;
+        input.note_held(&self.bytes[..self.end]);
         let count = read_behind(&mut self.bytes, self.end, input)?;
         self.end += count;
         Ok(count)

@@ -13,6 +13,15 @@ pub trait Source {
     /// How often it failed.
     ghost faults: { Self → ℕ };
 
+    /// Tells it which bytes of a message its reader holds before it reads on: with none the input
+    /// may rest.
+    fn note_held(&mut self, held: &[u8])
+        ensures left { left self.new ≡ left self.old }
+        ensures faults { faults self.new ≡ faults self.old }
+    {
+        let _ = held;
+    }
+
     /// Puts the next bytes at the start of the piece and answers how many they are.
     /// 0 for a piece that isn't empty is the end of the input. After `Failed` nothing was read;
     /// what the piece holds is then open, as is its part past the bytes that were read.

@@ -6,7 +6,7 @@ use crate::rows::{expect, expect_row, message_of, number_of};
 use message_heads::Message;
 use message_session::{Handler, SessionEnd, session};
 use office_outside::{
-    Clock, Failed, MemoryClock, MemorySink, MemorySource, Plan, Sink, write_whole,
+    Clock, Failed, MemoryClock, MemorySink, MemorySource, Plan, Sink, Source, write_whole,
 };
 use std::alloc::{AllocError, Global};
 use std::process::Abort;
@@ -152,6 +152,75 @@ GET / HTTP/1.1||\0|GET / HTTP/1.1|| => Done 1 00-.400!";
             let told = in_pieces(&rt, text, size);
             expect_row(&rt, text, told.trim_end(), wanted);
         }
+    }
+}
+
+/// A source of two messages, in pieces of one size. It looks whether it is told before each read of
+/// just the bytes that it gave of a message that isn't whole.
+#[derive(Drop)]
+struct Noting {
+    bytes: Vec<u8>,
+    /// How many of them are the first message.
+    first: usize,
+    at: usize,
+    size: usize,
+    is_told: bool,
+    is_right: bool,
+}
+
+impl Source for Noting {
+    ghost use Rattle.std.specs.Prelude.{None};
+
+    ghost left = { λ _. None };
+
+    ghost faults = { λ _. 0 };
+
+    fn note_held(&mut self, held: &[u8]) {
+        let begun = if self.at < self.first {
+            0
+        } else if self.at < self.bytes.len() {
+            self.first
+        } else {
+            self.at
+        };
+        self.is_told = self.bytes.get(begun..self.at) == Some(held);
+    }
+
+    fn read(&mut self, piece: &mut [u8]) -> Result<usize, Failed> {
+        self.is_right = self.is_right && self.is_told;
+        self.is_told = false;
+        let rest = self.bytes.get(self.at..).unwrap_or(&[]);
+        let count = rest.len().min(piece.len()).min(self.size);
+        piece[..count].copy_from_slice(&rest[..count]);
+        self.at = self.at.saturating_add(count);
+        Ok(count)
+    }
+}
+
+/// The end of a session over two messages in pieces of one size, whether its source was told right
+/// before each read, and its answers.
+fn noted(rt: &(impl AllocGlobal + Abort), text: &str, first: usize, size: usize) -> String {
+    let mut input = Noting {
+        bytes: message_of(rt.alloc(), text).expect(rt, "memory"),
+        first,
+        at: 0,
+        size,
+        is_told: false,
+        is_right: true,
+    };
+    let mut output = MemorySink::new(rt.alloc(), Plan::smooth(rt.alloc()));
+    let mut clock = MemoryClock::new(Vec::new(rt.alloc()));
+    let end = session(rt.alloc(), &mut Echo, &mut input, &mut output, &mut clock);
+    let is_right = input.is_right;
+    format!(in rt.alloc(); "{end:?} {is_right} {}", held(&output)).expect(rt, "memory")
+}
+
+#[test]
+fn a_source_is_told_what_is_held_of_a_message(rt: HostRuntime) {
+    let text = "POST / HTTP/1.1|Content-Length: 5||helloGET / HTTP/1.1|Host: a||";
+    for size in 1..66 {
+        let told = noted(&rt, text, 40, size);
+        expect_row(&rt, text, &told, "Done true 05o.00-.");
     }
 }
 
