@@ -159,8 +159,8 @@ class Office:
         return records(self.journal)
 
     @contextmanager
-    def serving(self) -> Iterator[Server]:
-        server = Server(self)
+    def serving(self, environment: dict[str, str] | None = None) -> Iterator[Server]:
+        server = Server(self, environment)
         try:
             yield server
         finally:
@@ -170,10 +170,11 @@ class Office:
 class Server:
     """An office that serves at a port of its own."""
 
-    def __init__(self, office: Office) -> None:
+    def __init__(self, office: Office, environment: dict[str, str] | None = None) -> None:
         self.port = free_port()
         self.base = f"http://127.0.0.1:{self.port}"
-        self.child = subprocess.Popen([office.program, "serve", str(self.port)], cwd=office.folder, stdout=subprocess.PIPE)
+        words = [str(office.program), "serve", str(self.port)]
+        self.child = subprocess.Popen(words, cwd=office.folder, stdout=subprocess.PIPE, env=environment)
         assert self.child.stdout
         line = self.child.stdout.readline()
         assert line == b"ready\n", line

@@ -24,7 +24,7 @@ const TRIES: u32 = 100;
 const PAUSE_MILLIS: u64 = 100;
 
 /// How many milliseconds a look waits at most, and how often links are closed that wait too long.
-const ROUND_MILLIS: u64 = 5_000;
+const ROUND_MILLIS: u64 = 1_000;
 
 /// The listener's name in the events; links have the numbers of their places.
 const LISTENER: usize = usize::MAX;
@@ -127,7 +127,7 @@ impl<R: time::Clock + Wait + Copy + Drop> Hall<R> {
         let other_tally = Arc::try_clone(&self.tally).ok()?;
         let at = self.places.lock(&rt).take_place(link.as_raw_fd())?;
         let visit = Visit {
-            input: LinkSource::new(rt, heard, at, tally),
+            input: LinkSource::new(rt, self.alloc, heard, at, tally),
             output: LinkSink::new(rt, link, other_tally),
             clock: WallClock::new(rt),
         };
@@ -280,6 +280,10 @@ impl<R: time::Clock + Wait + Copy + Drop> Hall<R> {
         let fd = link.as_raw_fd();
         let mut places = self.places.lock(&rt);
         let is_told = places.is_told(at);
+        if !places.make_room(visit.input.kept_bytes()) {
+            places.free(at);
+            return;
+        }
         places.put(at, visit, now);
         if is_told {
             drop(places);

@@ -10,6 +10,7 @@ mod doors;
 mod gate_sink;
 mod given;
 mod hall;
+mod kept;
 mod link;
 mod link_sink;
 mod link_source;

@@ -12,9 +12,12 @@ use std::time::{Clock, Duration, Instant};
 /// How often a call is made before it counts as a fault that it was always interrupted.
 const TRIES: usize = 100;
 
-/// How many milliseconds a read or a write inside a message waits before it is looked whether the
-/// message has time left: workers may have become busy meanwhile.
-pub(crate) const LOOK_MILLIS: u64 = 250;
+/// How many milliseconds a read waits for bytes before the link is let wait without a worker.
+const PAUSE_MILLIS: u64 = 5;
+
+/// How many milliseconds a write waits before it is looked whether the answer has time left:
+/// workers may have become busy meanwhile.
+const LOOK_MILLIS: u64 = 250;
 
 /// Reads once, and again where the read was interrupted. None where nothing came for as long as the
 /// link lets a read wait.
@@ -62,7 +65,7 @@ pub(crate) fn has_time<R: Clock>(rt: &R, begun: Instant, millis: u64) -> bool {
     }
 }
 
-/// Whether a message that began then has time left, or an answer.
+/// Whether an answer that began then has time left.
 pub(crate) fn has_patience<R: Clock>(rt: &R, begun: Instant, tally: &Tally) -> bool {
     has_time(rt, begun, tally.patience_millis())
 }
@@ -70,6 +73,8 @@ pub(crate) fn has_patience<R: Clock>(rt: &R, begun: Instant, tally: &Tally) -> b
 /// Shares a link between a source and a sink.
 pub(crate) fn share_link(alloc: Global, link: TcpStream) -> Option<Arc<TcpStream>> {
     link.set_nodelay(true).ok()?;
+    link.set_read_timeout(Some(Duration::from_millis(PAUSE_MILLIS)))
+        .ok()?;
     link.set_write_timeout(Some(Duration::from_millis(LOOK_MILLIS)))
         .ok()?;
     Arc::new(alloc, link).ok()

@@ -1,17 +1,16 @@
 //! A link of a port as a source. It tells nothing of what is left.
 ghost use Rattle.std.specs.Prelude.{◌≡◌, ◌≤◌, None, length, IfOk};
 
-use crate::link::{LOOK_MILLIS, has_patience, has_time, read_once};
-use crate::tally::Tally;
+use crate::kept::Kept;
+use crate::link::{has_time, read_once};
+use crate::tally::{PATIENCE_MILLIS, Tally};
 use office_outside::{Failed, Source};
+use std::alloc::Global;
 use std::io::Read;
 use std::net::{Shutdown, TcpStream};
 use std::os::fd::{AsRawFd, RawFd};
 use std::sync::Arc;
 use std::time::{Clock, Duration, Instant};
-
-/// How many milliseconds a link holds its worker between two messages where nobody else wants it.
-const PAUSE_MILLIS: u64 = 5;
 
 /// How many milliseconds the end of a link waits for what the client still sends, at each read and
 /// in all. A link that is closed with bytes unread loses the answers on their way.
@@ -19,109 +18,110 @@ const LINGER_MILLIS: u64 = 200;
 
 const LINGER_MILLIS_IN_ALL: u64 = 1_000;
 
-/// What a session hears of a link. Where it reads into as much room as at its first read no byte of
-/// a message waits there: the link is between two messages.
+/// How many bytes come at once where a message flows. Its link goes on also where others want the
+/// worker: each time that it is let wait its bytes are copied.
+const FLOW_BYTES: usize = 4_096;
+
+/// What a session hears of a link. Where no byte comes for a while the visit ends, and the link
+/// waits: with what the session holds of a message, where it holds some.
 #[derive(Drop)]
 struct Ear<R: Drop> {
     rt: R,
     link: Arc<TcpStream>,
     place: usize,
     tally: Arc<Tally>,
-    /// The room of this visit's first read: that of a whole message.
-    room: usize,
-    /// What the last read left of its room.
-    left: usize,
-    /// When the message began of which bytes wait, where that was looked at.
+    kept: Kept,
+    /// When the message began of which bytes are kept, where the clock told.
     begun: Option<Instant>,
-    /// Whether a read waits for the pause between two messages alone.
-    is_short: bool,
+    /// Whether the link was read from in this visit.
+    is_read: bool,
+    /// Whether a message flows.
+    flows: bool,
+    /// Whether there was no memory for what is to be kept.
+    is_full: bool,
     waits: bool,
 }
 
 impl<R: Clock + Drop> Ear<R> {
-    /// Lets the reads of the link wait so long.
-    fn set_wait(&mut self, millis: u64, is_short: bool) -> Result<(), Failed> {
-        if self.is_short == is_short {
-            return Ok(());
+    /// Hears what the session holds of a message. A visit's session holds the front of what is kept
+    /// until it was given all of it.
+    fn note_held(&mut self, held: &[u8]) {
+        if self.kept.is_giving() {
+            return;
         }
-        let wait = Duration::from_millis(millis);
-        if self.link.set_read_timeout(Some(wait)).is_err() {
-            return Err(Failed);
+        if !self.kept.is_empty() && !self.kept.goes_on(held.len()) {
+            self.kept.clear();
         }
-        self.is_short = is_short;
-        Ok(())
-    }
-
-    /// Reads between two messages. Where no byte comes the input ends here, and the link waits.
-    fn read_first(&mut self, piece: &mut [u8]) -> Result<usize, Failed>
-        ensures count { IfOk result (λ n. n ≤ length piece.new) }
-    {
-        if self.room > 0 && self.tally.wants_worker(&self.rt) {
-            self.waits = true;
-            return Ok(0);
+        if held.is_empty() {
+            self.flows = false;
+            return;
         }
-        self.room = piece.len();
-        self.begun = None;
-        self.set_wait(PAUSE_MILLIS, true)?;
-        match read_once(&self.link, piece) {
-            Ok(Some(count)) => {
-                self.left = piece.len() - count;
-                Ok(count)
-            }
-            Ok(None) => {
-                self.waits = true;
-                Ok(0)
-            }
-            Err(failed) => Err(failed),
-        }
-    }
-
-    /// When the message began of which bytes wait. Where there is more room than the last read left
-    /// a message was answered since.
-    fn beginning(&mut self, room: usize) -> Option<Instant> {
-        if self.begun.is_none() || room > self.left {
+        if self.kept.is_empty() {
             self.begun = Instant::now(&self.rt).ok();
         }
-        self.begun
+        self.is_full = self.kept.keep(held).is_err();
     }
 
-    /// Reads inside a message, which has its time for all of it.
-    fn read_on(&mut self, piece: &mut [u8]) -> Result<usize, Failed>
+    /// Whether a message has had its time, from its first byte on.
+    fn is_late(&self) -> bool {
+        if self.kept.is_empty() {
+            return false;
+        }
+        match self.begun {
+            Some(begun) => !has_time(&self.rt, begun, PATIENCE_MILLIS),
+            None => true,
+        }
+    }
+
+    /// Ends the visit, where the message that the session holds has time left: the link waits.
+    fn rest(&mut self) -> Result<usize, Failed>
+        ensures { IfOk result (λ n. n ≡ 0) }
+    {
+        if self.is_late() {
+            return Err(Failed);
+        }
+        self.waits = true;
+        Ok(0)
+    }
+
+    /// Reads from the link. The first read of a visit finds what the set told of, also where others
+    /// want the worker and where a message has had its time since.
+    fn read_link(&mut self, piece: &mut [u8]) -> Result<usize, Failed>
         ensures count { IfOk result (λ n. n ≤ length piece.new) }
     {
-        let Some(begun) = self.beginning(piece.len()) else {
+        if self.is_read && self.is_late() {
             return Err(Failed);
-        };
-        self.set_wait(LOOK_MILLIS, false)?;
-        for _ in 0..u64::MAX {
-            if !has_patience(&self.rt, begun, &self.tally) {
-                return Err(Failed);
-            }
-            match read_once(&self.link, piece) {
-                Ok(Some(count)) => {
-                    self.left = piece.len() - count;
-                    return Ok(count);
-                }
-                Ok(None) => {}
-                Err(failed) => return Err(failed),
-            }
         }
-        Err(Failed)
+        if self.is_read && !self.flows && self.tally.wants_worker(&self.rt) {
+            return self.rest();
+        }
+        self.is_read = true;
+        match read_once(&self.link, piece) {
+            Ok(Some(count)) => {
+                self.kept.note_read(count);
+                self.flows = count >= FLOW_BYTES;
+                Ok(count)
+            }
+            Ok(None) => self.rest(),
+            Err(failed) => Err(failed),
+        }
     }
 
     fn read(&mut self, piece: &mut [u8]) -> Result<usize, Failed>
         ensures count { IfOk result (λ n. n ≤ length piece.new) }
     {
-        if self.room == 0 || piece.len() >= self.room {
-            self.read_first(piece)
-        } else {
-            self.read_on(piece)
+        if self.is_full {
+            return Err(Failed);
         }
+        if self.kept.is_giving() {
+            return Ok(self.kept.give(piece));
+        }
+        self.read_link(piece)
     }
 }
 
-/// A link as a source. Where a session waits between two messages it may say that the input ended;
-/// the link then waits at its door.
+/// A link as a source. Where no byte comes for a while it says that the input ended, to a session
+/// inside a message too; the link then waits at its door.
 #[derive(Drop)]
 pub struct LinkSource<R: Drop> {
     ear: Ear<R>,
@@ -129,7 +129,13 @@ pub struct LinkSource<R: Drop> {
 }
 
 impl<R: Clock + Drop> LinkSource<R> {
-    pub(crate) fn new(rt: R, link: Arc<TcpStream>, place: usize, tally: Arc<Tally>) -> LinkSource<R>
+    pub(crate) fn new(
+        rt: R,
+        alloc: Global,
+        link: Arc<TcpStream>,
+        place: usize,
+        tally: Arc<Tally>,
+    ) -> LinkSource<R>
         ensures { result.faults ≡ 0 }
     {
         LinkSource {
@@ -138,26 +144,42 @@ impl<R: Clock + Drop> LinkSource<R> {
                 link,
                 place,
                 tally,
-                room: 0,
-                left: 0,
+                kept: Kept::new(alloc),
                 begun: None,
-                is_short: false,
+                is_read: false,
+                flows: false,
+                is_full: false,
                 waits: false,
             },
             faults: 0,
         }
     }
 
-    /// Makes it ready for a session.
+    /// Makes it ready for a session, which is given first what is kept.
     pub(crate) fn begin(&mut self) {
-        self.ear.room = 0;
-        self.ear.begun = None;
+        self.ear.kept.begin();
+        self.ear.is_read = false;
         self.ear.waits = false;
     }
 
-    /// Whether its last session ended between two messages, because no byte came.
+    /// Whether its last session ended because no byte came.
     pub(crate) fn waits(&self) -> bool {
         self.ear.waits
+    }
+
+    /// How many bytes it keeps of a message that isn't whole.
+    pub(crate) fn kept_bytes(&self) -> usize {
+        self.ear.kept.len()
+    }
+
+    /// Whether such a message has had its time.
+    pub(crate) fn is_late(&self, now: Instant) -> bool {
+        match self.ear.begun {
+            Some(begun) if !self.ear.kept.is_empty() => {
+                now.duration_since(begun) >= Duration::from_millis(PATIENCE_MILLIS)
+            }
+            _ => false,
+        }
     }
 
     pub(crate) fn place(&self) -> usize {
@@ -201,6 +223,10 @@ impl<R: Clock + Drop> Source for LinkSource<R> {
     ghost left = { λ _. None };
 
     ghost faults = { λ s. s.faults };
+
+    fn note_held(&mut self, held: &[u8]) {
+        self.ear.note_held(held);
+    }
 
     fn read(&mut self, piece: &mut [u8]) -> Result<usize, Failed> {
         match self.ear.read(piece) {

@@ -20,6 +20,11 @@ pub(crate) const EVENTS: usize = 64;
 /// How many seconds a link may wait: as long as nginx keeps one that it doesn't use, and some more.
 const IDLE_SECONDS: u64 = 75;
 
+/// How many bytes all links that wait may keep of messages that aren't whole: sixteen large ones,
+/// so that a thousand slow links can't take a gigabyte. Above it the link with some is closed that
+/// waits for the longest time. Beside these each worker has what its own link keeps.
+const MOST_KEPT_BYTES: usize = 16 << 20;
+
 /// What a visitor at a port is served over.
 pub(crate) type TcpVisit<R> = Visit<LinkSource<R>, LinkSink<R>, WallClock<R>>;
 
@@ -60,6 +65,8 @@ pub(crate) enum Heard {
 pub(crate) struct Places<R: Clock + Drop> {
     places: Vec<Place<R>>,
     waiting: usize,
+    /// How many bytes the links that wait keep.
+    kept: usize,
     /// The places of which the set told, and that nobody took yet.
     ready: Vec<usize>,
 }
@@ -73,6 +80,7 @@ impl<R: Clock + Drop> Places<R> {
         Ok(Places {
             places,
             waiting: 0,
+            kept: 0,
             ready: Vec::with_capacity(alloc, EVENTS)?,
         })
     }
@@ -87,10 +95,12 @@ impl<R: Clock + Drop> Places<R> {
         self.waiting > 0
     }
 
-    fn remove_waiter(&mut self)
+    /// Counts one less that waits, which keeps so many bytes.
+    fn remove_waiter(&mut self, kept: usize)
         ensures { self.new.places ≡ self.old.places }
     {
         self.waiting = self.waiting.saturating_sub(1);
+        self.kept = self.kept.saturating_sub(kept);
     }
 
     fn free_place(&self) -> Option<usize> {
@@ -126,7 +136,7 @@ impl<R: Clock + Drop> Places<R> {
                     fd: waiter.visit.input.raw_fd(),
                     is_told: true,
                 });
-                self.remove_waiter();
+                self.remove_waiter(waiter.visit.input.kept_bytes());
                 Some(waiter.visit)
             }
         }
@@ -176,8 +186,17 @@ impl<R: Clock + Drop> Places<R> {
     /// Lets a link wait at its place.
     pub(crate) fn put(&mut self, at: usize, visit: TcpVisit<R>, since: Instant) {
         if at < self.places.len() {
+            self.kept = self.kept.saturating_add(visit.input.kept_bytes());
             self.places[at] = Place::Waits(Waiter { visit, since });
             self.waiting = self.waiting.saturating_add(1);
+        }
+    }
+
+    /// How many bytes the link that waits at a place keeps.
+    fn kept_at(&self, at: usize) -> Option<usize> {
+        match self.places.get(at) {
+            Some(Place::Waits(waiter)) => Some(waiter.visit.input.kept_bytes()),
+            _ => None,
         }
     }
 
@@ -186,15 +205,21 @@ impl<R: Clock + Drop> Places<R> {
         ensures { length self.new.places.items ≡ length self.old.places.items }
     {
         if at < self.places.len() {
-            if let Place::Waits(_) = &self.places[at] {
-                self.remove_waiter();
+            if let Some(kept) = self.kept_at(at) {
+                self.remove_waiter(kept);
             }
             self.places[at] = Place::Free;
         }
     }
 
-    /// Closes the link that waits for the longest time, but for those of which the set told.
-    pub(crate) fn close_oldest(&mut self) {
+    /// Whether a link at a place may be closed: the set didn't tell of it, so that no message is
+    /// dropped that came.
+    fn is_quiet(&self, at: usize) -> bool {
+        !self.ready.contains(&at)
+    }
+
+    /// Where the quiet link waits for the longest time, of those that keep at least so many bytes.
+    fn oldest(&self, least_kept: usize) -> Option<usize> {
         let mut oldest = None;
         for (at, place) in self.places.iter().enumerate() {
             if let Place::Waits(waiter) = place {
@@ -202,25 +227,50 @@ impl<R: Clock + Drop> Places<R> {
                     None => true,
                     Some((_, since)) => waiter.since < since,
                 };
-                if is_older && !self.ready.contains(&at) {
+                let is_asked = waiter.visit.input.kept_bytes() >= least_kept;
+                if is_older && is_asked && self.is_quiet(at) {
                     oldest = Some((at, waiter.since));
                 }
             }
         }
-        if let Some((at, _)) = oldest {
+        match oldest {
+            Some((at, _)) => Some(at),
+            None => None,
+        }
+    }
+
+    /// Closes the quiet link that waits for the longest time.
+    pub(crate) fn close_oldest(&mut self) {
+        if let Some(at) = self.oldest(0) {
             self.free(at);
         }
     }
 
-    /// Closes the links that wait too long.
+    /// Makes room for so many bytes of a message that isn't whole. Answers whether there is room.
+    pub(crate) fn make_room(&mut self, bytes: usize) -> bool {
+        for _ in 0..self.places.len() {
+            if bytes == 0 || self.kept.saturating_add(bytes) <= MOST_KEPT_BYTES {
+                return true;
+            }
+            let Some(at) = self.oldest(1) else {
+                return false;
+            };
+            self.free(at);
+        }
+        false
+    }
+
+    /// Closes the quiet links that wait too long, and those whose message has had its time.
     pub(crate) fn close_idle(&mut self, now: Instant) {
         let most = Duration::from_secs(IDLE_SECONDS);
         for at in 0..self.places.len() {
             let is_idle = match &self.places[at] {
-                Place::Waits(waiter) => now.duration_since(waiter.since) >= most,
+                Place::Waits(waiter) => {
+                    now.duration_since(waiter.since) >= most || waiter.visit.input.is_late(now)
+                }
                 _ => false,
             };
-            if is_idle {
+            if is_idle && self.is_quiet(at) {
                 self.free(at);
             }
         }

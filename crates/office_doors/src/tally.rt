@@ -3,10 +3,11 @@
 use std::sync::atomic::{AtomicUsize, Ordering};
 use std::time::{Clock, Instant};
 
-/// How many milliseconds a message may take from its first byte to its last, and an answer; and
-/// how many while no worker is free, so that slow links can't hold all of them for long.
-const PATIENCE_MILLIS: u64 = 10_000;
+/// How many milliseconds a message may take from its first byte to its last, and an answer.
+pub(crate) const PATIENCE_MILLIS: u64 = 10_000;
 
+/// How many an answer may take while no worker is free: a link that takes nothing of it holds its
+/// worker.
 const HURRY_MILLIS: u64 = 2_000;
 
 /// How many milliseconds busy links may hold all workers before one of these looks whether others
@@ -96,7 +97,7 @@ impl Tally {
                 .is_ok()
     }
 
-    /// How long a message may take now, and an answer.
+    /// How long an answer may take now.
     pub(crate) fn patience_millis(&self) -> u64 {
         if self.free_workers.load(Ordering::SeqCst) == 0 {
             HURRY_MILLIS

@@ -12,9 +12,6 @@ use std::time::Clock;
 /// The room for a message in these tests.
 const ROOM: usize = 16;
 
-/// What is left of it behind two bytes.
-const ROOM_BEHIND_TWO: usize = 14;
-
 fn here(port: u16) -> SocketAddr {
     SocketAddr::V4(SocketAddrV4::new(Ipv4Addr::LOCALHOST, port))
 }
@@ -51,18 +48,16 @@ fn hears(link: &mut TcpStream, text: &[u8]) -> bool {
     link.read(&mut answer).ok() == Some(text.len()) && answer.starts_with(text)
 }
 
-/// Whether a visit's input gives this text into the room of a message behind so many bytes; none,
-/// where it ends.
-fn gives<S: Source>(input: &mut S, behind: usize, text: &[u8]) -> bool {
+/// Whether a visit's input gives this text to a reader that holds so much of a message; none, where
+/// it ends.
+fn gives<S: Source>(input: &mut S, held: &[u8], text: &[u8]) -> bool {
     let mut piece = [0; ROOM];
-    match piece.get_mut(behind..) {
-        Some(room) => input.read(room).ok() == Some(text.len()) && room.starts_with(text),
-        None => false,
-    }
+    input.note_held(held);
+    input.read(&mut piece).ok() == Some(text.len()) && piece.starts_with(text)
 }
 
-/// Serves the next link as a session does that answers each message by its bytes: it reads into the
-/// room of a whole message until the input ends. Answers how many messages came.
+/// Serves the next link as a session does whose messages come in one piece each, and that answers
+/// them by their bytes until the input ends. Answers how many messages came.
 fn echo_next<R>(door: &mut TcpDoor<R>) -> Option<usize>
 where
     R: Net<Listener = TcpListener, Stream = TcpStream> + Clock + Wait + Copy + Send + Sync + Drop,
@@ -98,7 +93,7 @@ where
     R: Net<Listener = TcpListener, Stream = TcpStream> + Clock + Wait + Copy + Send + Sync + Drop,
 {
     let mut visit = door.next().ok().flatten()?;
-    let is_given = gives(&mut visit.input, 0, message) && gives(&mut visit.input, 0, b"");
+    let is_given = gives(&mut visit.input, b"", message) && gives(&mut visit.input, b"", b"");
     let is_right = is_given && write_whole(&mut visit.output, answer).is_ok();
     door.end(visit);
     Some(is_right)
@@ -140,7 +135,7 @@ where
     R: Net<Listener = TcpListener, Stream = TcpStream> + Clock + Wait + Copy + Send + Sync + Drop,
 {
     let mut visit = door.next().ok().flatten()?;
-    let is_given = gives(&mut visit.input, 0, b"one") && gives(&mut visit.input, 0, b"");
+    let is_given = gives(&mut visit.input, b"", b"one") && gives(&mut visit.input, b"", b"");
     let is_right = is_given && sends(link, b"two");
     door.end(visit);
     Some(is_right)
@@ -158,34 +153,52 @@ fn bytes_that_come_while_a_link_is_given_back_are_seen(rt: HostRuntime) {
     doors.close(door);
 }
 
-/// Whether the next visit gives a byte, and one more that the link sends then, and fails where it
+/// Whether the next visit gives a byte, and one more that the link sends then, and ends where it
 /// waits for a third.
-fn is_cut<R>(door: &mut TcpDoor<R>, link: &mut TcpStream) -> Option<bool>
+fn is_begun<R>(door: &mut TcpDoor<R>, link: &mut TcpStream) -> Option<bool>
 where
     R: Net<Listener = TcpListener, Stream = TcpStream> + Clock + Wait + Copy + Send + Sync + Drop,
 {
     let mut visit = door.next().ok().flatten()?;
-    let is_begun = gives(&mut visit.input, 0, b"G") && sends(link, b"E");
-    let is_given = is_begun && gives(&mut visit.input, 1, b"E");
-    let mut room = [0; ROOM_BEHIND_TWO];
-    let is_right = is_given && visit.input.read(&mut room).is_err();
+    let has_first = gives(&mut visit.input, b"", b"G") && sends(link, b"E");
+    let has_second = has_first && gives(&mut visit.input, b"G", b"E");
+    let is_right = has_second && gives(&mut visit.input, b"GE", b"");
+    door.end(visit);
+    Some(is_right)
+}
+
+/// Whether the next visit gives both bytes again, then what the link sent, and takes an answer; and
+/// whether nothing is given again behind it.
+fn is_ended<R>(door: &mut TcpDoor<R>) -> Option<bool>
+where
+    R: Net<Listener = TcpListener, Stream = TcpStream> + Clock + Wait + Copy + Send + Sync + Drop,
+{
+    let mut visit = door.next().ok().flatten()?;
+    let has_front = gives(&mut visit.input, b"", b"GE");
+    let has_whole = has_front && gives(&mut visit.input, b"GE", b"T");
+    let is_answered = has_whole && write_whole(&mut visit.output, b"got").is_ok();
+    let is_right = is_answered && gives(&mut visit.input, b"", b"");
     door.end(visit);
     Some(is_right)
 }
 
 #[test]
-fn a_message_that_stands_still_is_cut_where_no_worker_is_free(rt: HostRuntime) {
+fn a_message_that_stands_still_holds_no_worker_and_is_given_again(rt: HostRuntime) {
     let (mut doors, mut door, port) = open_door(rt, rt.alloc()).expect(&rt, "a door");
     let mut slow = link_to(&rt, port).expect(&rt, "a link");
     let mut honest = link_to(&rt, port).expect(&rt, "a link");
     expect(&rt, sends(&mut slow, b"G"), "a byte");
-    expect(&rt, is_cut(&mut door, &mut slow) == Some(true), "a cut");
-    expect(&rt, hears(&mut slow, b""), "an end");
+    let is_right = is_begun(&mut door, &mut slow);
+    expect(&rt, is_right == Some(true), "two bytes");
     expect(
         &rt,
         is_answered(&mut door, &mut honest, b"honest"),
         "honest",
     );
+    expect(&rt, sends(&mut slow, b"T"), "the last byte");
+    expect(&rt, is_ended(&mut door) == Some(true), "the message");
+    expect(&rt, hears(&mut slow, b"got"), "its answer");
+    expect(&rt, is_answered(&mut door, &mut slow, b"next"), "the next");
     doors.close(door);
 }
 
