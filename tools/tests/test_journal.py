@@ -14,6 +14,7 @@ from support import TOP, message, pipe, program, run_tool, running_office
 from slo_tools.journal.file import Record, beyond_tail, read_journal
 from slo_tools.journal.mending import mending_of
 from slo_tools.journal.records import Entry, Row, Samples
+from slo_tools.journal.sealing import read_seals, verdict_of
 
 ORIGIN = 29_000_000
 
@@ -144,7 +145,23 @@ class Reading(unittest.TestCase):
         run = run_tool("slo-journal", str(self.folder / "broken"))
         self.assertEqual(run.returncode, 1)
         self.assertIn(f"damaged at {place}: the gate reads as closed, and 6 records", run.stdout)
+        self.assertIn("; or it was closed by hand: then cut the file behind it", run.stdout)
         self.assertIn("lift m1", run.stdout)
+
+    def test_a_copy_that_is_cut_behind_a_gate_closed_by_hand_is_sound(self) -> None:
+        place = read_journal(self.data).records[4].place
+        folder = Path(self.enterContext(tempfile.TemporaryDirectory(prefix="slo-tools-")))
+        file = folder / "office.journal"
+        file.write_bytes(self.data)
+        with file.open("r+b") as opened:
+            opened.seek(place)
+            opened.write(b"\0")
+        subprocess.run(["truncate", "-s", str(place + 1), file], check=True)
+        for entries in (4, 5, 6):
+            told = json.loads(run_tool("slo-journal", "--json", str(file)).stdout)
+            self.assertEqual((told["sound"], told["behind"]), (True, []))
+            self.assertEqual(len(told["entries"]), entries)
+            pipe(folder, message("POST", "/tick"))
 
     def test_one_record_behind_the_closed_gate_is_no_damage(self) -> None:
         place = read_journal(self.data).records[9].place
@@ -266,9 +283,25 @@ class Mending(unittest.TestCase):
         for record in journal.records[:-1]:
             broken = bytearray(self.data)
             broken[record.place] = 0
-            repair = mending_of(bytes(broken)).repair
+            repair = mending_of(bytes(broken), record.place).repair
             assert repair is not None
             self.assertEqual(repair.content, self.data)
+
+    def test_a_gate_that_somebody_may_have_closed_is_opened_only_by_its_place(self) -> None:
+        place = read_journal(self.data).records[4].place
+        closed = self.data[:place] + b"\0" + self.data[place + 1 :]
+        file, out = self.folder / "closed", self.folder / "out"
+        file.write_bytes(closed)
+        unnamed: list[str] = []
+        for words in (unnamed, ["--open-gate", str(place + 1)]):
+            run = run_tool("slo-journal", "--mend", str(out), *words, str(file))
+            self.assertEqual(run.returncode, 1)
+            self.assertIn(f"`--open-gate {place}` opens it", run.stdout)
+            self.assertIn(f"`truncate -s {place + 1}` of a copy", run.stdout)
+            self.assertFalse(out.exists())
+        run = run_tool("slo-journal", "--mend", str(out), "--open-gate", str(place), str(file))
+        self.assertEqual((run.returncode, run.stderr), (0, ""))
+        self.assertEqual((out.read_bytes(), file.read_bytes()), (self.data, closed))
 
     def test_the_command_writes_a_copy_that_opens_and_never_the_file(self) -> None:
         torn = self.folder / "torn"
@@ -308,6 +341,176 @@ class Mending(unittest.TestCase):
         data = self.data[:tail] + short + long[len(short) :]
         journal = read_journal(data)
         self.assertEqual(beyond_tail(data, journal).records, [])
+
+
+class Sealing(unittest.TestCase):
+    def setUp(self) -> None:
+        self.folder = Path(self.enterContext(tempfile.TemporaryDirectory(prefix="slo-tools-")))
+        self.data = small_journal(self.folder)
+        self.file, self.seals = self.folder / "office.journal", self.folder / "seals"
+
+    def run_seal(self, *words: str) -> tuple[int, str]:
+        run = run_tool("slo-journal", str(self.file), *words, str(self.seals))
+        self.assertEqual(run.stderr, "")
+        return run.returncode, run.stdout
+
+    def seal_fronts(self, *numbers: int) -> list[int]:
+        """Seals of the journal as it was with so many entries; how many bytes each is of."""
+        sizes = []
+        records = read_journal(self.data).records
+        for number in numbers:
+            size = records[number - 1].next_gate
+            self.file.write_bytes(self.data[:size] + b"\0")
+            self.assertEqual(self.run_seal("--seal")[0], 0)
+            sizes.append(size)
+        self.file.write_bytes(self.data)
+        return sizes
+
+    def test_a_seal_is_the_sum_of_the_bytes_before_the_closed_gate(self) -> None:
+        (size,) = self.seal_fronts(10)
+        line = self.seals.read_text()
+        words = line.split()
+        self.assertEqual(words[1:5], ["entries", "10", "bytes", str(len(self.data) - 1)])
+        self.assertEqual(size, len(self.data) - 1)
+        by_hand = subprocess.run(
+            f"head -c {words[4]} {self.file} | sha256sum",
+            shell=True,
+            capture_output=True,
+            text=True,
+            check=True,
+        )
+        self.assertEqual(by_hand.stdout.split()[0], words[6])
+        self.assertEqual(line, " ".join(words) + "\n")
+
+    def test_seals_hold_while_the_journal_grows(self) -> None:
+        with running_office(ORIGIN) as office:
+            self.file = office.folder / "office.journal"
+            for number in range(3):
+                office.client().tick()
+                status, line = self.run_seal("--seal")
+                self.assertEqual(status, 0)
+                self.assertIn(f" entries {number + 1} bytes ", line)
+            office.client().tick()
+            status, told = self.run_seal("--verify")
+            self.assertEqual(status, 0)
+            self.assertTrue(told.startswith("3 of 3 seals hold, up to entry 3, byte 43, "), told)
+
+    def test_a_flip_at_each_byte_below_the_last_seal_is_told(self) -> None:
+        sizes = [0, *self.seal_fronts(2, 5, 9)]
+        seals = read_seals(self.seals.read_bytes()).seals
+        self.assertEqual([seal.entries for seal in seals], [2, 5, 9])
+        self.assertIsNone(verdict_of(self.data, seals).broken)
+        for place in range(sizes[-1]):
+            number = next(n for n, size in enumerate(sizes) if place < size)
+            for bit in range(8):
+                broken = bytearray(self.data)
+                broken[place] ^= 1 << bit
+                verdict = verdict_of(bytes(broken), seals)
+                with self.subTest(place=place, bit=bit):
+                    assert verdict.broken is not None
+                    self.assertEqual(verdict.broken.number, number)
+                    self.assertEqual(len(verdict.holding), number - 1)
+                    self.assertEqual(verdict.wrong, [])
+
+    def test_the_command_says_where_the_damage_lies(self) -> None:
+        sizes = self.seal_fronts(2, 5, 9)
+        rows = read_journal(self.data).records[4].place + 30
+        broken = bytearray(self.data)
+        broken[rows] ^= 1
+        self.file.write_bytes(broken)
+        told = f"the damage lies among the entries 2 to 4, the bytes {sizes[0]} to {sizes[1] - 1}"
+        status, text = self.run_seal("--verify")
+        self.assertEqual(status, 1)
+        self.assertIn("the seal of line 2, of ", text)
+        self.assertIn(told, text)
+        self.assertIn("1 of 3 seals hold, up to entry 2, ", text)
+        before = self.seals.read_bytes()
+        status, text = self.run_seal("--seal")
+        self.assertEqual(status, 1)
+        self.assertIn(told, text)
+        self.assertEqual(self.seals.read_bytes(), before)
+
+    def test_a_journal_that_lost_its_end_is_told(self) -> None:
+        self.seal_fronts(5, 9)
+        self.file.write_bytes(self.data[: read_journal(self.data).records[6].place] + b"\0")
+        status, text = self.run_seal("--verify")
+        self.assertEqual(status, 1)
+        self.assertIn("the damage lies among the entries 5 to 8, ", text)
+
+    def test_what_is_damaged_is_not_sealed(self) -> None:
+        place = read_journal(self.data).records[4].place
+        closed = bytearray(self.data)
+        closed[place] = 0
+        self.file.write_bytes(closed)
+        status, text = self.run_seal("--seal")
+        self.assertEqual(status, 1)
+        self.assertIn(f"the gate at {place} reads as closed, and 6 records stand behind", text)
+        for data in (self.data[:-1], b"\x01OSLOJRN2" + self.data[9:], b""):
+            self.file.write_bytes(data)
+            self.assertEqual(self.run_seal("--seal")[0], 1)
+        self.assertFalse(self.seals.exists())
+
+    def test_a_torn_last_line_is_told_and_goes_with_the_next_seal(self) -> None:
+        self.seal_fronts(5)
+        whole = self.seals.read_bytes()
+        for size in range(1, len(whole)):
+            self.seals.write_bytes(whole + whole[:size])
+            self.assertEqual(read_seals(self.seals.read_bytes()).torn, size)
+        status, text = self.run_seal("--verify")
+        self.assertEqual(status, 0)
+        self.assertIn("the last line of ", text)
+        self.assertIn("is torn", text)
+        self.assertEqual(self.run_seal("--seal")[0], 0)
+        told = read_seals(self.seals.read_bytes())
+        self.assertEqual(([it.entries for it in told.seals], told.torn), ([5, 10], 0))
+        self.assertTrue(self.seals.read_bytes().startswith(whole))
+
+    def test_a_wrong_line_is_told_as_such(self) -> None:
+        self.seal_fronts(2, 5, 9)
+        lines = self.seals.read_bytes().splitlines(keepends=True)
+        for at in range(len(lines[1]) - 1):
+            wrong = bytearray(lines[1])
+            wrong[at] ^= 1
+            self.seals.write_bytes(lines[0] + wrong + lines[2])
+            told = read_seals(self.seals.read_bytes())
+            verdict = verdict_of(self.data, told.seals)
+            # Of the date a digit may change, which no sum is of.
+            if at >= len(lines[1].split()[0]):
+                with self.subTest(at=at):
+                    self.assertTrue(told.foreign or verdict.wrong or verdict.broken)
+        self.seals.write_bytes(lines[0] + lines[1][:-3] + b"0\n" + lines[2])
+        status, text = self.run_seal("--verify")
+        self.assertEqual(status, 1)
+        self.assertIn("line 2 is no seal", text)
+        self.assertEqual(self.run_seal("--seal")[0], 1)
+
+    def test_without_a_seal_nothing_holds(self) -> None:
+        self.seals.write_bytes(b"")
+        status, text = self.run_seal("--verify")
+        self.assertEqual(status, 1)
+        self.assertIn("there is no seal", text)
+        self.seals.unlink()
+        run = run_tool("slo-journal", str(self.file), "--verify", str(self.seals))
+        self.assertEqual(run.returncode, 2)
+        self.assertIn("seals", run.stderr)
+
+    def test_a_full_disk_leaves_the_seals_as_they_were(self) -> None:
+        self.seal_fronts(5)
+        whole = self.seals.read_bytes()
+        words = ["prlimit", f"--fsize={len(whole) + 20}", "/usr/bin/python3"]
+        tool = str(TOP / "tools" / "bin" / "slo-journal")
+        run = subprocess.run(
+            [*words, tool, str(self.file), "--seal", str(self.seals)],
+            capture_output=True,
+            text=True,
+            check=False,
+        )
+        self.assertEqual((run.returncode, run.stdout), (2, ""))
+        self.assertEqual(len(self.seals.read_bytes()), len(whole) + 20)
+        self.assertEqual(self.run_seal("--seal")[0], 0)
+        told = read_seals(self.seals.read_bytes())
+        self.assertEqual([it.entries for it in told.seals], [5, 10])
+        self.assertTrue(self.seals.read_bytes().startswith(whole))
 
 
 if __name__ == "__main__":

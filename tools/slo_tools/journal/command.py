@@ -28,6 +28,7 @@ from slo_tools.journal.file import (
 from slo_tools.journal.history import Change, History
 from slo_tools.journal.mending import mending_of
 from slo_tools.journal.records import Entry
+from slo_tools.journal.sealing import SealFault, seal, verify
 
 SOUND, DAMAGED, FAILED = 0, 1, 2
 
@@ -36,7 +37,7 @@ def parser() -> argparse.ArgumentParser:
     made = argparse.ArgumentParser(
         prog="slo-journal",
         description="Read an office's journal, or a copy of it, without locking or changing it.",
-        epilog="Exit status: 0 sound or mended, 1 damaged, 2 it couldn't be read or written.",
+        epilog="Exit status: 0 sound, mended or sealed, 1 damaged, 2 it couldn't be read or written.",
     )
     made.add_argument("file", metavar="FILE", help="the journal, also that of a running office")
     made.add_argument("--log", metavar="LOG", help="the proxy's access log, to say who asked")
@@ -44,10 +45,23 @@ def parser() -> argparse.ArgumentParser:
     made.add_argument("--to", metavar="DATE", dest="end", type=_minute, default=2**32)
     made.add_argument("--summary", action="store_true", help="leave the entries out")
     made.add_argument("--json", action="store_true", help="print JSON")
-    made.add_argument(
+    task = made.add_mutually_exclusive_group()
+    task.add_argument(
         "--mend",
         metavar="OUT",
         help="write a repaired copy where one bit or a torn tail is what is wrong",
+    )
+    task.add_argument(
+        "--seal", metavar="SEALS", help="append the sum of all entries to a file of seals"
+    )
+    task.add_argument(
+        "--verify", metavar="SEALS", help="say whether the journal is as it was sealed"
+    )
+    made.add_argument(
+        "--open-gate",
+        metavar="N",
+        type=int,
+        help="with --mend: the closed gate to be opened, where nobody closed it by hand",
     )
     made.add_argument(
         "--program",
@@ -106,6 +120,10 @@ def main(words: Optional[list[str]] = None) -> int:
     if options.alone:
         options.program = None
     try:
+        if options.seal is not None:
+            return _seal(options)
+        if options.verify is not None:
+            return _verify(options)
         data = read_bytes(Path(options.file))
         if options.mend is not None:
             return _mend(data, options)
@@ -209,12 +227,13 @@ def _fault_lines(report: Report) -> Iterator[str]:
     if beyond.was_acknowledged:
         yield (
             f"damaged at {journal.tail}: the gate reads as closed, and {len(beyond.records)}"
-            f" records stand behind it, up to {beyond.ends_at}"
+            f" records stand behind it, up to {beyond.ends_at}; or it was closed by hand: then cut"
+            f" the file behind it, by truncate -s {journal.tail + 1}"
         )
     elif beyond.records:
         yield (
             f"behind the closed gate stands one record of {beyond.records[0][0].length} bytes:"
-            " a change that was never acknowledged, or whose gate was closed by damage"
+            " a change that was never acknowledged, or whose gate was closed by damage or by hand"
         )
     for line in report.behind:
         yield f"  {_entry_line(line)}"
@@ -266,10 +285,26 @@ def _entry_json(line: Line) -> dict[str, Any]:
     }
 
 
+def _seal(options: argparse.Namespace) -> int:
+    try:
+        print(seal(Path(options.file), Path(options.seal)))
+    except SealFault as fault:
+        print(f"not sealed: {fault}")
+        return DAMAGED
+    return SOUND
+
+
+def _verify(options: argparse.Namespace) -> int:
+    lines, is_well = verify(Path(options.file), Path(options.verify))
+    for line in lines:
+        print(line)
+    return SOUND if is_well else DAMAGED
+
+
 def _mend(data: bytes, options: argparse.Namespace) -> int:
     if len(data) == MAX_JOURNAL_BYTES:
         raise OSError("the file is as long as a journal can be, and isn't mended")
-    mending = mending_of(data)
+    mending = mending_of(data, options.open_gate)
     if mending.repair is None:
         judged = judged_by(options.program, data) if mending.is_sound and options.program else ""
         told = f"the office says: {judged}" if judged else mending.text

@@ -49,15 +49,16 @@ class Mending:
     text: str
 
 
-def mending_of(data: bytes) -> Mending:
-    """The repair of a journal's bytes, if there is exactly one."""
+def mending_of(data: bytes, open_gate: Optional[int] = None) -> Mending:
+    """The repair of a journal's bytes, if there is exactly one. A closed gate with records behind
+    it is opened only where its place is named: a person may have closed it."""
     journal = read_journal(data)
     if len(data) < HEADER_BYTES:
         return Mending(None, False, "the header isn't whole")
     if journal.foreign:
         return _only(list(_header_repairs(data)), "no single bit makes its header one")
     if journal.damage is None:
-        return _closed_gate(data, journal, beyond_tail(data, journal))
+        return _closed_gate(data, journal, beyond_tail(data, journal), open_gate)
     repairs = list(_bit_repairs(data, journal))
     if repairs:
         most = max(repair.entries for repair in repairs)
@@ -76,11 +77,20 @@ def _only(repairs: list[Repair], otherwise: str) -> Mending:
     return Mending(None, False, f"{len(repairs)} repairs fit, and none is surer: {told}")
 
 
-def _closed_gate(data: bytes, journal: Journal, beyond: Beyond) -> Mending:
+def _closed_gate(
+    data: bytes, journal: Journal, beyond: Beyond, open_gate: Optional[int]
+) -> Mending:
     if not beyond.was_acknowledged:
         return Mending(None, True, "there is nothing to mend")
     if not beyond.is_closed:
         return Mending(None, False, "the records behind the closed gate don't end at a gate")
+    if open_gate != journal.tail:
+        why = (
+            f"the gate at {journal.tail} reads as closed, with {len(beyond.records)} records behind"
+            f" it. Where nobody closed it, `--open-gate {journal.tail}` opens it; where somebody"
+            f" did, `truncate -s {journal.tail + 1}` of a copy leaves out what stands behind it"
+        )
+        return Mending(None, False, why)
     text = f"the gate at {journal.tail} opened, with {len(beyond.records)} records behind it"
     entries = len(journal.records) + len(beyond.records)
     return Mending(Repair(_with(data, journal.tail, 1), entries, text), False, "")
