@@ -17,7 +17,7 @@ from pathlib import Path
 
 import objects
 from feeds import journal, tick
-from groups.clients import front
+from groups.clients import HOST, front
 from groups.following import compare, made, service
 from groups.tools import lacking
 from office import EXAMPLES, TOP, Lost, Office, Server, define, message, minute_now
@@ -89,6 +89,10 @@ def answer(content: bytes, length: int | None = None) -> bytes:
 HTML = answer(b"<html>come in</html>" * 3)
 
 
+def same(got: tuple[int, str], wanted: tuple[int, str]) -> None:
+    assert got == wanted, f"{got}, wanted {wanted}"
+
+
 def rows(server: Server, origin: int, first: int, count: int) -> None:
     link = server.link()
     for n in range(first, first + count):
@@ -110,14 +114,14 @@ def askings(report: Report) -> None:
         assert status == NO_OFFICE and line.endswith("; the copy has no entries"), line
         assert not follower.copy.journal.exists()
     with report.case("a page that is no feed makes no copy"), page(HTML) as base:
-        assert follower.run(base) == (NO_OFFICE, "slo-follow: no feed (the answer is no feed); the copy has no entries")
+        same(follower.run(base), (NO_OFFICE, "slo-follow: no feed (the answer is no feed); the copy has no entries"))
         assert not follower.copy.journal.exists()
     with report.case("a copy is made, and kept"), office.serving() as server:
         (follower.folder / "made").mkdir()
-        assert follower.run(server.base) == (DONE, "1 entries came, 1 are there")
-        assert follower.run(server.base) == (DONE, "0 entries came, 1 are there")
+        same(follower.run(server.base), (DONE, "1 entries came, 1 are there"))
+        same(follower.run(server.base), (DONE, "0 entries came, 1 are there"))
         rows(server, origin, 0, 3)
-        assert follower.run(server.base) == (DONE, "3 entries came, 4 are there")
+        same(follower.run(server.base), (DONE, "3 entries came, 4 are there"))
         assert follower.records() == office.records()
         assert sorted(it.name for it in follower.folder.iterdir()) == ["follow.json", "office.journal"]
     with report.case("the office is gone, and how long it is"):
@@ -143,7 +147,7 @@ def askings(report: Report) -> None:
         records = [service(origin, 700_000, n) for n in range(5)]
         large = Follower(report, "large-copy")
         with made(report, "large", origin, records).serving() as server:
-            assert large.run(server.base) == (DONE, "5 entries came, 5 are there")
+            same(large.run(server.base), (DONE, "5 entries came, 5 are there"))
         assert large.records() == records
     with report.case("plain http to another machine needs a word"):
         status, line = follower.run("http://office.example.org:8080")
@@ -221,7 +225,7 @@ def far_back(report: Report) -> None:
     with report.case("an entry that differs far back: all are compared once a day, and by a word"), office.serving() as server:
         recent = {"entries": 40_000, "all_came": None, "compared": int(time.time()) - 60, "diverged": None}
         (follower.folder / "follow.json").write_text(json.dumps(recent))
-        assert follower.run(server.base) == (DONE, "0 entries came, 40000 are there")
+        same(follower.run(server.base), (DONE, "0 entries came, 40000 are there"))
         status, line = follower.run(server.base, "--whole")
         assert status == DIVERGED and "slo-follow: diverges at 100: " in line, line
         (follower.folder / "follow.json").write_text(json.dumps({**recent, "compared": int(time.time()) - 90_000}))
@@ -367,7 +371,8 @@ def behind_nginx(report: Report) -> None:
     origin = minute_now() - 10_000
     office, follower, folder = Office(report.program, report.folder("behind"), origin), Follower(report, "behind-copy"), report.folder("nginx")
     office.ask([define(objects.ratio("good"))])
-    with report.case("nginx: TLS and a password"), office.serving() as server, front(folder, {8080: server.port}) as port:
+    named = (f"server_name {HOST};", "server_name localhost;")
+    with report.case("nginx: TLS and a password"), office.serving() as server, front(folder, {8080: server.port}, changed=named) as port:
         secret = folder / "secret"
         secret.write_text("secret\n")
         trust, base = f'ca = "{folder / "office.crt"}"\n', f"https://localhost:{port}"
@@ -376,7 +381,7 @@ def behind_nginx(report: Report) -> None:
         for more in (login, trust):
             status, line = follower.run(base, more=more)
             assert status == NO_OFFICE and line.startswith("slo-follow: no feed ("), line
-        assert follower.run(base, more=trust + login) == (DONE, "4 entries came, 4 are there")
+        same(follower.run(base, more=trust + login), (DONE, "4 entries came, 4 are there"))
         assert follower.records() == office.records()
 
 

@@ -25,7 +25,7 @@ from slo_tools.follow.feeds import MOST_FEED_BYTES, Feed, Fewer, NoFeed, Source,
 from slo_tools.follow.rounds import Following
 from slo_tools.follow.state import State, read_state, write_state
 from slo_tools.follow.taking import MOST_FEEDS_BYTES, CopyFault
-from slo_tools.office import Answer
+from slo_tools.questions import Answer
 from slo_tools.settings import ConfigFault
 
 ORIGIN = int(time.time()) // 60 - 10_000
@@ -37,6 +37,15 @@ ROOM = "/dev/shm" if os.access("/dev/shm", os.W_OK) else None
 
 def tick(moment: int) -> bytes:
     return moment.to_bytes(4, "big") + b"\x07"
+
+
+def define(moment: int, size: int) -> bytes:
+    """The record of so many bytes that defines a service."""
+    text = b"apiVersion: openslo/v1\nkind: Service\nmetadata:\n  name: s\nspec:\n  description: "
+    text += (
+        b"d" * (moment % 1_000) + b"\n#" + b"x" * (size - 12 - len(text) - moment % 1_000) + b"\n"
+    )
+    return moment.to_bytes(4, "big") + b"\x01" + len(text).to_bytes(4, "big") + text
 
 
 def feed_bytes(origin: int, first: int, records: Sequence[bytes]) -> bytes:
@@ -249,11 +258,35 @@ class Held(unittest.TestCase):
         self.hold(self.office)
         made = self.opened()
         self.assertEqual(made.round(), 0)
-        self.assertEqual(self.asked, [5_000 - OVERLAP_BYTES // 9])
+        self.assertEqual(self.asked, [5_000 - OVERLAP_BYTES // 9, 5_000])
         # One long entry is overlapped by itself.
         text = b"\0\0\x13\x88\x01" + (60_000).to_bytes(4, "big") + b"#" * 60_000
         self.hold([tick(500), text])
         self.assertEqual(CopyFile(self.copy.journal).last_records(), [text])
+
+    def test_an_entry_without_room_behind_the_last_one_comes(self) -> None:
+        texts = [define(500 + n, 700_000 + n) for n in range(4)]
+        self.office, held = texts, texts[:1]
+        self.hold(held)
+        self.assertEqual(self.opened().round(), 3)
+        self.assertEqual(self.copy.records(), texts)
+
+    def test_an_office_that_changes_between_two_askings_is_seen(self) -> None:
+        texts = [define(500 + n, 700_000) for n in range(2)]
+        self.office = texts
+        self.hold(texts[:1])
+        made = self.opened()
+        others = [define(499, 700_000), texts[1]]
+
+        def feed(at: int) -> Answer:
+            if at == 1:
+                self.office = others
+            return self.feed(at)
+
+        made.source = Source(feed)
+        with self.assertRaisesRegex(Diverged, "diverges at 0"):
+            made.round()
+        self.assertEqual(self.copy.records(), texts[:1])
 
     def test_the_comparison_of_all_entries_sees_what_one_feed_cant(self) -> None:
         entries = [tick(500 + n // 10) for n in range(300_000)]

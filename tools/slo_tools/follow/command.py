@@ -36,12 +36,12 @@ def main(words: Optional[Sequence[str]] = None) -> int:
     try:
         config = read_config(Path(options.config))
         program = _program(config)
+        source = Source(asking(_office(config)), config.is_plain)
         watch = Watch(None if options.once else config.metrics_port, config.metrics_file)
-    except (ConfigFault, OSError) as fault:
+    except (ConfigFault, ValueError, OSError) as fault:
         print(f"slo-follow: {fault}", file=sys.stderr)
         return USAGE
     clock = SystemClock()
-    source = Source(asking(_office(config)), config.is_plain)
     following = Following(source, program, config.folder, clock, config.compare_hours)
     return Run(config, following, watch, clock).run(options.once, options.whole)
 
@@ -73,7 +73,11 @@ def _program(config: Config) -> str:
 def _office(config: Config) -> Office:
     login = config.office_login
     return Office(
-        config.office, timeout=TIMEOUT, credentials=login.credentials, verify=login.verify
+        config.office,
+        timeout=TIMEOUT,
+        credentials=login.credentials,
+        token=login.token,
+        verify=login.verify,
     )
 
 

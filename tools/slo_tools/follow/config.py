@@ -6,9 +6,9 @@ import ipaddress
 from dataclasses import dataclass
 from pathlib import Path
 from typing import Optional
-from urllib.parse import urlsplit
 
 from slo_tools.settings import Login, Table, read_settings
+from slo_tools.wire import address_of
 
 EVERY_SECONDS = 5
 COMPARE_HOURS = 24
@@ -39,8 +39,6 @@ def _config(table: Table, folder: Path) -> Config:
     office = table.table("office")
     address, is_plain = _address(office)
     login = office.login(folder)
-    if login.token is not None:
-        raise office.fault("token_file", "is no key of this file")
     office.end()
     copy = table.table("copy")
     read = Config(
@@ -62,23 +60,17 @@ def _config(table: Table, folder: Path) -> Config:
 
 def _address(office: Table) -> tuple[str, bool]:
     """The address, and whether nothing on the way sums up what comes from there."""
-    address = office.wanted("address")
-    try:
-        parts = urlsplit(address)
-        host = parts.hostname
-    except ValueError as fault:
-        raise office.fault("address", "is no address") from fault
-    if parts.scheme not in ("http", "https") or not host or parts.username is not None:
-        raise office.fault("address", "is no https://HOST or http://127.0.0.1:PORT")
+    text = office.address("address")
+    address = address_of(text)
     may_be_plain = office.truth("plain_http")
-    is_plain = parts.scheme == "http" and not _is_loopback(host)
+    is_plain = address.scheme == "http" and not _is_loopback(address.host)
     if is_plain and not may_be_plain:
         raise office.fault(
             "address",
             "is plain http to another machine, where nothing tells a flipped bit: take https, or"
             " `plain_http = true`, by which each feed is asked for twice",
         )
-    return address, is_plain
+    return text, is_plain
 
 
 def _is_loopback(host: str) -> bool:

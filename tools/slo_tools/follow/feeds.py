@@ -6,8 +6,9 @@ from collections.abc import Callable
 from dataclasses import dataclass
 
 from slo_tools.journal.file import MAX_RECORD_BYTES
-from slo_tools.office import Answer, Office, Pauses
-from slo_tools.refusals import NoAnswer
+from slo_tools.office import Office, Pauses
+from slo_tools.questions import Answer
+from slo_tools.refusals import OfficeError
 
 MARK = b"OSLOFEED"
 HEAD_BYTES = 20
@@ -92,7 +93,7 @@ class Source:
     def _asked(self, at: int) -> Feed:
         try:
             answer = self.ask(at)
-        except NoAnswer as fault:
+        except OfficeError as fault:
             raise NoFeed(str(fault)) from fault
         if answer.status == 422 and answer.word == "range":
             raise Fewer

@@ -90,12 +90,11 @@ class Following:
     def _take_all(self, copy: CopyFile) -> None:
         before: Optional[Feed] = None
         while True:
-            last = copy.last_records()
-            held = Held(iter(last), copy.entries - len(last))
-            feed = asked(self.source, held.at, copy.origin)
-            compare(feed, held)
-            if feed.end <= copy.entries:
-                return
+            feed = self._overlapping(copy)
+            if feed.end == copy.entries:
+                feed = self._behind(copy)
+                if not feed.records:
+                    return
             first = feed.records[copy.entries - feed.first]
             self._follower.give(feed, copy)
             # Where this one's first new entry would have fitted into the feed before, that one had
@@ -103,6 +102,22 @@ class Following:
             if before is not None and before.has_room(first):
                 return
             before = feed
+
+    def _overlapping(self, copy: CopyFile) -> Feed:
+        """A feed that begins before the copy's end; what both have is alike."""
+        last = copy.last_records()
+        held = Held(iter(last), copy.entries - len(last))
+        feed = asked(self.source, held.at, copy.origin)
+        compare(feed, held)
+        return feed
+
+    def _behind(self, copy: CopyFile) -> Feed:
+        """The feed from the copy's end on: a long entry has no room behind one that both have. Then
+        these are compared once more, since the office may have been another one meanwhile."""
+        feed = asked(self.source, copy.entries, copy.origin)
+        if feed.records:
+            self._overlapping(copy)
+        return feed
 
     def _refuse(self, told: str) -> None:
         """What the copy's program refuses is asked for once more: a bit may have flipped."""
