@@ -360,10 +360,14 @@ class Held(unittest.TestCase):
         self.office = [tick(500)]
         self.hold(self.office)
         made = self.opened()
+        children = Path(f"/proc/self/task/{os.getpid()}/children")
+        seen = set()
         for number in range(3):
             self.office.append(tick(501 + number))
             made._follower._given = MOST_FEEDS_BYTES - 20
             self.assertEqual(made.round(), 1)
+            seen.add(children.read_text())
+        self.assertEqual(len(seen), 3)
         self.assertEqual(self.copy.records(), self.office)
 
     def test_a_program_that_ends_is_started_again(self) -> None:
