@@ -233,6 +233,14 @@ class Held(unittest.TestCase):
         made.open()
         return made
 
+    def compare_all(self, made: Following) -> None:
+        """The whole comparison, of some feeds."""
+        for _ in range(50):
+            if not made.is_comparing:
+                return
+            made.compare_some()
+        self.fail("the comparison doesn't end")
+
     def test_each_asking_has_an_entry_that_both_have(self) -> None:
         """Ways for the last entry to be another one, or to be missing."""
         self.hold([tick(500), tick(501), tick(502)])
@@ -309,14 +317,12 @@ class Held(unittest.TestCase):
             made.compare_some()
             self.office = office
             with self.assertRaisesRegex(Diverged, str(at)):
-                while made.is_comparing:
-                    made.compare_some()
+                self.compare_all(made)
         self.office = entries
         self.asked.clear()
         made = self.opened()
         made.begin_comparison()
-        while made.is_comparing:
-            made.compare_some()
+        self.compare_all(made)
         self.assertEqual(len(self.asked), 3)
         self.assertIsNotNone(made.state.compared)
 
@@ -328,8 +334,7 @@ class Held(unittest.TestCase):
         made.compare_some()
         self.office = [*self.office, tick(20_000), tick(20_001)]
         self.assertEqual(made.round(), 2)
-        while made.is_comparing:
-            made.compare_some()
+        self.compare_all(made)
         self.assertEqual(made.round(), 0)
 
     def test_a_comparison_is_due_once_a_day(self) -> None:
