@@ -10,7 +10,7 @@ from report import Report
 
 RUN = TOP / "tools" / "tests" / "run"
 # The others wait for rounds and minutes of the clock.
-QUICK = {"counters", "edits", "journal", "office", "words"}
+QUICK = {"counters", "edits", "follow", "journal", "office", "words"}
 HISTORIES = {True: "10000", False: "100"}
 # What the tools stand on, by module and Debian's package.
 NEEDS = {"requests": "python3-requests", "yaml": "python3-yaml", "prometheus_client": "python3-prometheus-client"}

@@ -36,14 +36,15 @@ def main(words: Optional[Sequence[str]] = None) -> int:
     try:
         config = read_config(Path(options.config))
         program = _program(config)
-        source = Source(asking(_office(config)), config.is_plain)
+        office = _office(config)
         watch = Watch(None if options.once else config.metrics_port, config.metrics_file)
     except (ConfigFault, ValueError, OSError) as fault:
         print(f"slo-follow: {fault}", file=sys.stderr)
         return USAGE
     clock = SystemClock()
+    source = Source(asking(office), config.is_plain)
     following = Following(source, program, config.folder, clock, config.compare_hours)
-    return Run(config, following, watch, clock).run(options.once, options.whole)
+    return Run(config, office, following, watch, clock).run(options.once, options.whole)
 
 
 def _parser() -> argparse.ArgumentParser:
@@ -84,9 +85,13 @@ def _office(config: Config) -> Office:
 class Run:
     """One run, or rounds for ever, and what is told of them."""
 
-    def __init__(self, config: Config, following: Following, watch: Watch, clock: Clock) -> None:
-        self.config, self.following, self.watch, self.clock = config, following, watch, clock
+    def __init__(
+        self, config: Config, office: Office, following: Following, watch: Watch, clock: Clock
+    ) -> None:
+        self.config, self.office, self.following = config, office, following
+        self.watch, self.clock = watch, clock
         self._fault: Optional[str] = None
+        self._is_whole = False
         following.compared = self._seal
 
     def run(self, once: bool, whole: bool) -> int:
@@ -94,7 +99,8 @@ class Run:
         try:
             self.following.open()
             self._heed_divergence(whole)
-            return self._once(whole) if once else self._for_ever(whole)
+            self._is_whole = whole
+            return self._once() if once else self._for_ever()
         except Diverged as fault:
             return self._diverged(str(fault))
         except Damaged as fault:
@@ -117,40 +123,48 @@ class Run:
         if diverged is not None and not whole:
             raise Diverged(diverged)
 
-    def _once(self, whole: bool) -> int:
-        came = self.following.round()
-        self.following.end()
-        self._compare_all(whole)
+    def _once(self) -> int:
+        with self.office.kept_link():
+            self._compare_whole()
+            came = self.following.round()
+            self.following.end()
+            self.following.begin_comparison()
+            while self.following.is_comparing:
+                self.following.compare_some()
         self._remember(True)
         print(f"{came} entries came, {self.following.state.entries} are there")
         return DONE
 
-    def _compare_all(self, whole: bool) -> None:
-        self.following.begin_comparison(whole)
+    def _compare_whole(self) -> None:
+        """Where it was asked for: before anything is taken, which a copy that diverged doesn't."""
+        if not self._is_whole:
+            return
+        self.following.begin_comparison(True)
         while self.following.is_comparing:
             self.following.compare_some()
-        if whole:
-            self.following.state.diverged = None
+        self.following.state.diverged = None
+        self._is_whole = False
 
-    def _for_ever(self, whole: bool) -> int:
-        if whole:
-            self._compare_all(whole)
+    def _for_ever(self) -> int:
         self.following.start()
-        pause = float(self.config.every)
+        every = pause = float(self.config.every)
         while True:
             due = self.clock.now() + pause
             try:
-                self._round(due)
-                pause = float(self.config.every)
+                with self.office.kept_link():
+                    self._round(due)
+                pause = every
             except NoFeed as fault:
                 self._tell(f"no feed ({fault}); {self._had()}")
-                pause = float(self.config.every)
+                pause = every
             except (CopyFault, OSError) as fault:
                 self._tell(str(fault))
                 pause = min(2 * pause, LONGEST_PAUSE)
-            self.clock.sleep(due - self.clock.now())
+            # Not longer where the clock was set back.
+            self.clock.sleep(min(due - self.clock.now(), pause))
 
     def _round(self, due: float) -> None:
+        self._compare_whole()
         came = self.following.round()
         if self._fault is not None:
             LOG.info("over: %d entries are there", self.following.state.entries)

@@ -38,7 +38,6 @@ class Following:
         self._follower = Follower(program, folder, clock.sleep)
         self._copy: Optional[CopyFile] = None
         self._held: Optional[Held] = None
-        self._refused: Optional[str] = None
         self._written = 0.0
         self.state = State()
         self.compared: Callable[[Path], None] = lambda journal: None
@@ -81,8 +80,8 @@ class Following:
         try:
             self._take_all(copy)
         except NotTaken as fault:
-            self._refuse(str(fault))
-        self._refused = None
+            LOG.warning("the copy's program takes no entry: %s; it is asked for once more", fault)
+            self._take_again(copy)
         copy.sync()
         self.state.entries, self.state.all_came = copy.entries, begun
         return copy.entries - before
@@ -119,12 +118,14 @@ class Following:
             self._overlapping(copy)
         return feed
 
-    def _refuse(self, told: str) -> None:
-        """What the copy's program refuses is asked for once more: a bit may have flipped."""
-        if self._refused == told and told.startswith("illegal at "):
-            raise Diverged(told)
-        self._refused = told
-        raise CopyFault(f"the copy's program takes no entry: {told}")
+    def _take_again(self, copy: CopyFile) -> None:
+        """A bit may have flipped on the way; else the histories differ somewhere before."""
+        try:
+            self._take_all(copy)
+        except NotTaken as fault:
+            if str(fault).startswith("illegal at "):
+                raise Diverged(str(fault)) from fault
+            raise CopyFault(f"the copy's program takes no entry: {fault}") from fault
 
     def _opened(self) -> CopyFile:
         """The copy's file. It is made where there is none."""
