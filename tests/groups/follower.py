@@ -256,7 +256,7 @@ def full_disk(report: Report) -> None:
     assert all(it.status == 200 for it in office.ask(message("POST", "/samples", it) for it in lines))
     seen = set()
     with report.case("a disk with few free blocks: what is missing is told"), office.serving() as server:
-        for blocks in range(2, 24):
+        for blocks in (2, 3, 4, 6, 8, 9, 10, 11, 12, 13, 14, 20):
             follower = Follower(report, f"full-{blocks}")
             with small_disk(follower.folder, blocks):
                 follower.copy.journal.write_bytes(journal(origin, office.records()[:1]))
@@ -312,13 +312,13 @@ def killed(report: Report) -> None:
     with office.serving() as server:
         begun = time.monotonic()
         follower.run(server.base)
-        most = 10 * (time.monotonic() - begun)
+        most = 6 * (time.monotonic() - begun)
 
     def follow(server: Server, acknowledged: int) -> int:
         """How many entries the copy says that it has, where an asking came to its end."""
         child = follower.start(server.base, "--once")
         if chance.random() < 0.3:
-            time.sleep(most / 10 * chance.random())
+            time.sleep(most / 6 * chance.random())
             end(child, chance)
             return 0
         out, said = child.communicate(timeout=120)
