@@ -274,6 +274,14 @@ class Held(unittest.TestCase):
         self.hold([tick(500), text])
         self.assertEqual(CopyFile(self.copy.journal).last_records(), [text])
 
+    def test_an_office_that_has_not_even_what_both_should_have_diverges(self) -> None:
+        entries = [tick(500 + n) for n in range(5_000)]
+        self.hold(entries)
+        self.office = entries[:100]
+        with self.assertRaisesRegex(Diverged, "the office has fewer than"):
+            self.opened().round()
+        self.assertEqual(self.copy.records(), entries)
+
     def test_an_entry_without_room_behind_the_last_one_comes(self) -> None:
         texts = [define(500 + n, 700_000 + n) for n in range(4)]
         self.office, held = texts, texts[:1]
