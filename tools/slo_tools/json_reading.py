@@ -8,7 +8,7 @@ from bisect import bisect_right
 from json.decoder import scanstring  # type: ignore[attr-defined]
 
 from slo_tools.nodes import Fault, Fields, Items, Node, Place, Scalar
-from slo_tools.yaml_reading import MAX_DEPTH, Reading
+from slo_tools.yaml_reading import MAX_DEPTH, MAX_NODES, Reading
 
 BLANKS = re.compile(r"[ \t\r\n]*")
 WORD = re.compile(r"-?(0|[1-9]\d*)(\.\d+)?([eE][-+]?\d+)?|true|false|null")
@@ -24,21 +24,23 @@ class _Stop(Exception):
         self.why = why
 
 
-def read_json(text: str) -> Reading:
-    """The document of a text; the items of a list at its top are a document each."""
-    reader = _Reader(text)
+def read_json(text: str, most: int = MAX_NODES) -> Reading:
+    """The document of a text of at most so many nodes; the items of a list at its top are a
+    document each."""
+    reader = _Reader(text, most)
     try:
         node = reader.whole()
     except _Stop as stop:
         fault = Fault(reader.place(stop.at), stop.rule, why=stop.why)
-        return Reading([], [*reader.faults, fault])
+        return Reading([], [*reader.faults, fault], reader.left)
     documents = list(node.items) if isinstance(node, Items) else [node]
-    return Reading(documents, reader.faults)
+    return Reading(documents, reader.faults, reader.left)
 
 
 class _Reader:
-    def __init__(self, text: str) -> None:
+    def __init__(self, text: str, left: int) -> None:
         self.text = text
+        self.left = left
         self.at = 0
         self.starts = [0, *(found.end() for found in re.finditer("\n", text))]
         self.faults: list[Fault] = []
@@ -70,6 +72,7 @@ class _Reader:
 
     def node(self, depth: int) -> Node:
         begin = self.at
+        self.count(begin)
         if depth > MAX_DEPTH:
             raise _Stop(begin, "too_deep", f"maps and lists are nested above {MAX_DEPTH} deep")
         if self.next_is("{"):
@@ -121,10 +124,16 @@ class _Reader:
     def entry(self, depth: int) -> tuple[Scalar, Node]:
         if not self.text.startswith('"', self.at):
             raise _Stop(self.at, "json", "a key in double quotes has to stand here")
+        self.count(self.at)
         key = self.string()
         self.skip()
         self.need(":")
         return key, self.node(depth + 1)
+
+    def count(self, at: int) -> None:
+        self.left -= 1
+        if self.left < 0:
+            raise _Stop(at, "limit", f"a folder has at most {MAX_NODES:,} nodes")
 
     def need(self, character: str) -> None:
         if not self.next_is(character):

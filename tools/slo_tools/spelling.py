@@ -7,6 +7,9 @@ from fractions import Fraction
 from typing import Optional
 
 _DURATION = re.compile(r"(\d+)([mhdwMQY])", re.ASCII)
+# Above every range, and far below where Python refuses to read a number.
+_MOST_DIGITS = 18
+_MOST = 1_000_000_000_000_000_000
 _UNITS = {"m": 1, "h": 60, "d": 1440, "w": 10_080, "M": 43_200, "Q": 129_600, "Y": 525_600}
 
 
@@ -25,4 +28,8 @@ def spelled_fraction(value: Optional[Fraction]) -> Optional[str]:
 def minutes_of_duration(text: str) -> Optional[int]:
     """The minutes of a duration of OpenSLO, as `5m` or `1w`; None where it is none."""
     found = _DURATION.fullmatch(text)
-    return None if found is None else int(found[1]) * _UNITS[found[2]]
+    if found is None:
+        return None
+    digits = found[1].lstrip("0")
+    number = int(digits or "0") if len(digits) <= _MOST_DIGITS else _MOST
+    return number * _UNITS[found[2]]

@@ -13,7 +13,7 @@ import yaml
 from slo_tools.nodes import Fault, Fields, Items, Node, Place, Scalar
 
 MAX_DEPTH = 32
-# Aliases may stand for nodes again and again: no folder of SLOs comes near this number.
+# Aliases may stand for nodes again and again: no text of SLOs comes near this number.
 MAX_NODES = 200_000
 
 PREFIX = "tag:yaml.org,2002:"
@@ -37,16 +37,19 @@ class Reading:
 
     documents: list[Node] = field(default_factory=list)
     faults: list[Fault] = field(default_factory=list)
+    # How many nodes the text may still have.
+    left: int = MAX_NODES
 
 
-def read_yaml(text: str) -> Reading:
-    """All documents of a text. After a fault the documents behind it are read as well."""
-    reading = Reading()
+def read_yaml(text: str, most: int = MAX_NODES) -> Reading:
+    """All documents of a text of at most so many nodes. After a fault the documents behind it are
+    read as well."""
+    reading = Reading(left=most)
     if _read_piece(text, 0, reading):
         return reading
-    reading = Reading()
+    reading = Reading(left=most)
     line = 0
-    for piece in _pieces(text):
+    for piece in pieces(text):
         _read_piece(piece, line, reading)
         line += piece.count("\n")
     return reading
@@ -141,16 +144,16 @@ def _scalar(text: str, place: Place) -> Scalar:
     )
 
 
-def _pieces(text: str) -> list[str]:
+def pieces(text: str) -> list[str]:
     """The text cut before each marker of a document; directives stay with what they belong to."""
     cuts = [0, *(found.start() for found in DOCUMENT_START.finditer(text)), len(text)]
-    pieces: list[str] = []
+    found: list[str] = []
     for begin, end in zip(cuts, cuts[1:]):
-        if pieces and all(line[:1] in ("", "%", "#") for line in pieces[-1].splitlines()):
-            pieces[-1] += text[begin:end]
+        if found and all(line[:1] in ("", "%", "#") for line in found[-1].splitlines()):
+            found[-1] += text[begin:end]
         else:
-            pieces.append(text[begin:end])
-    return pieces
+            found.append(text[begin:end])
+    return found
 
 
 def _read_piece(text: str, line: int, reading: Reading) -> bool:
@@ -162,9 +165,12 @@ def _read_piece(text: str, line: int, reading: Reading) -> bool:
     try:
         while loader.check_node():
             composed = loader.get_node()
-            converter = _Converter(loader, line)
+            converter = _Converter(loader, line, reading.left)
             node = converter.node(composed, 1)
+            reading.left = converter.left
             reading.faults.extend(converter.faults)
+            if reading.left <= 0:
+                return True
             if node is not None and not (isinstance(node, Scalar) and node.is_null):
                 reading.documents.append(node)
     except yaml.YAMLError as fault:
@@ -190,19 +196,23 @@ def _why(fault: yaml.YAMLError) -> str:
 class _Converter:
     """Makes nodes of what PyYAML composed; each fault is kept, and its node left out."""
 
-    def __init__(self, loader: Any, line: int) -> None:
+    def __init__(self, loader: Any, line: int, left: int) -> None:
         self.loader = loader
         self.line = line
         self.faults: list[Fault] = []
-        self.left = MAX_NODES
+        self.left = left
         self.open: set[int] = set()
 
     def node(self, composed: Any, depth: int) -> Optional[Node]:
         place = self._place(composed)
+        if self.left <= 0:
+            return None
         self.left -= 1
-        if self.left <= 0 or id(composed) in self.open:
-            why = "an alias stands inside its own anchor" if self.left > 0 else "too many nodes"
-            self._fault(place, "left_out", why)
+        if self.left == 0:
+            self._fault(place, "limit", f"more than {MAX_NODES:,} nodes, by aliases too")
+            return None
+        if id(composed) in self.open:
+            self._fault(place, "left_out", "an alias stands inside its own anchor")
             return None
         if composed.tag not in STANDARD:
             self._fault(place, "left_out", f"the tag {composed.tag}")
@@ -232,6 +242,7 @@ class _Converter:
     def _fields(self, composed: Any, place: Place, depth: int) -> Fields:
         entries: list[tuple[Scalar, Node]] = []
         merged: list[tuple[Scalar, Node]] = []
+        names: set[str] = set()
         for key, value in composed.value:
             if key.tag == PREFIX + "merge":
                 merged.extend(self._merged(value, depth))
@@ -242,13 +253,13 @@ class _Converter:
             if not isinstance(name, Scalar):
                 self._fault(name.place, "left_out", "a key that is no scalar")
                 continue
-            if any(known.text == name.text for known, _ in entries):
+            if name.text in names:
                 self.faults.append(Fault(name.place, "duplicate_key", name.text))
                 continue
             made = self.node(value, depth + 1)
             if made is not None:
                 entries.append((name, made))
-        names = {name.text for name, _ in entries}
+                names.add(name.text)
         for name, made in merged:
             if name.text not in names:
                 names.add(name.text)

@@ -8,8 +8,7 @@ import sys
 from pathlib import Path
 from typing import Optional
 
-from slo_tools.apply.folder import Told, read_folder
-from slo_tools.apply.form import RULES
+from slo_tools.apply.folder import Folder, Told, read_folder
 from slo_tools.apply.judging import Base, calendar_zones, judge
 from slo_tools.apply.planning import (
     Plan,
@@ -22,6 +21,7 @@ from slo_tools.apply.planning import (
     sampled_by,
 )
 from slo_tools.apply.scratch import ScratchFault
+from slo_tools.apply.telling import fault_line, in_order, shown, tell
 from slo_tools.office import Pauses
 from slo_tools.office_options import add_office_options, office_of
 from slo_tools.refusals import OfficeError
@@ -68,7 +68,7 @@ def main(words: Optional[list[str]] = None) -> int:
         sys.stdout.flush()
         return status
     except (OfficeError, OSError, ScratchFault, ValueError) as fault:
-        print(f"slo-apply: {fault}", file=sys.stderr)
+        print(f"slo-apply: {shown(str(fault))}", file=sys.stderr)
         return FAULTY
 
 
@@ -83,10 +83,7 @@ def _run(options: argparse.Namespace) -> int:
             running = running_of(office)
         base = Base(running.texts, running.zones)
     judged = judge(options.program, folder, base)
-    if judged.faults:
-        for line in sorted(map(fault_line, judged.faults), key=_line_order):
-            print(line, file=sys.stderr)
-        print(f"slo-apply: {_count(len(judged.faults), 'fault')}", file=sys.stderr)
+    if _tell_faults(folder, judged.faults):
         return FAULTY
     if options.check:
         print(f"{_count(len(judged.texts), 'object')}, no fault")
@@ -120,17 +117,12 @@ def _run(options: argparse.Namespace) -> int:
     return FAULTY if done.faults else DONE
 
 
-def fault_line(told: Told) -> str:
-    """`file:line:column: path: rule: what that means`."""
-    fault = told.fault
-    meaning = RULES.get(fault.rule, "")
-    text = ": ".join(part for part in (fault.path, fault.rule, fault.why or meaning) if part)
-    return f"{told.file}:{fault.place.line}:{fault.place.column}: {text}"
-
-
-def _line_order(line: str) -> tuple[str, int, int, str]:
-    file, number, column, text = line.split(":", 3)
-    return file, int(number), int(column), text
+def _tell_faults(folder: Folder, faults: list[Told]) -> bool:
+    """Tells the faults of a folder; whether there are any."""
+    tell(map(fault_line, in_order(folder.let_out(faults))), sys.stderr)
+    if faults:
+        print(f"slo-apply: {_count(len(faults), 'fault')}", file=sys.stderr)
+    return bool(faults)
 
 
 def _tell(plan: Plan) -> int:

@@ -2,12 +2,14 @@
 
 from __future__ import annotations
 
+import os
 import re
-from collections.abc import Iterator
+from collections.abc import Iterable, Iterator
 from dataclasses import dataclass, field
 from pathlib import Path
-from typing import NamedTuple
+from typing import NamedTuple, NoReturn, Optional
 
+from slo_tools.apply.bounds import Bounds
 from slo_tools.apply.profile import unwritable, with_plain_numbers, written
 from slo_tools.json_reading import read_json
 from slo_tools.nodes import Fault, Node, Place, Scalar
@@ -17,6 +19,10 @@ from slo_tools.yaml_reading import Reading, read_yaml
 ZONES = "zones"
 SUFFIXES = (".yaml", ".yml", ".json")
 TZIF = b"TZif"
+# More than an office takes as a zone.
+MOST_ZONE_BYTES = 65_537
+# What an office takes as one text, less a marker in front.
+MOST_DOCUMENT_BYTES = 1_048_570
 NAMED = re.compile(r"""\bname["']?\s*:\s*["']?([a-z0-9-]+)""")
 
 
@@ -60,8 +66,18 @@ class Folder:
     documents: list[Document] = field(default_factory=list)
     zones: list[Zone] = field(default_factory=list)
     faults: list[Told] = field(default_factory=list)
+    # Files that a link of the folder leads to, and that aren't the folder's own: what they say is
+    # told to nobody.
+    foreign: set[str] = field(default_factory=set)
     # Names that stand in files that couldn't be read whole: what refers to them isn't at fault.
     unread: set[str] = field(default_factory=set)
+
+    def let_out(self, faults: Iterable[Told]) -> list[Told]:
+        """Faults as they may be told: of what isn't the folder's own the place and the rule."""
+        return [
+            Told(file, Fault(fault.place, fault.rule) if file in self.foreign else fault)
+            for file, fault in faults
+        ]
 
     def in_order(self) -> list[Document]:
         """The documents, each behind those that it may refer to."""
@@ -73,44 +89,84 @@ def read_folder(top: Path) -> Folder:
     if not top.is_dir():
         raise NotADirectoryError(f"{top}: no folder")
     folder = Folder()
+    bounds = Bounds()
+    inside = top.resolve()
     for path in _files(top):
         name = path.relative_to(top)
-        if name.parts[0] == ZONES:
+        is_zone = name.parts[0] == ZONES
+        if not is_zone and path.suffix not in SUFFIXES:
+            continue
+        if not path.is_file():
+            folder.faults.append(Told(str(path), Fault(Place(1, 1), "not_file")))
+            continue
+        if not path.resolve().is_relative_to(inside):
+            folder.foreign.add(str(path))
+        if is_zone:
             folder.zones.append(_zone(path, name))
-        elif path.suffix in SUFFIXES:
-            _read_file(folder, path)
+        elif not _read_file(folder, path, bounds):
+            break
     return folder
 
 
 def _files(top: Path) -> Iterator[Path]:
-    for path in sorted(top.rglob("*")):
-        hidden = any(part.startswith(".") for part in path.relative_to(top).parts)
-        if path.is_file() and not hidden:
-            yield path
+    """All that a folder has but folders and what is hidden, in the order of the paths."""
+    found: list[Path] = []
+    for place, folders, files in os.walk(top, onerror=_unreadable):
+        folders[:] = [name for name in folders if not name.startswith(".")]
+        found += [Path(place, name) for name in files if not name.startswith(".")]
+    return iter(sorted(found))
+
+
+def _unreadable(fault: OSError) -> NoReturn:
+    raise fault
 
 
 def _zone(path: Path, name: Path) -> Zone:
-    content = path.read_bytes()
+    with path.open("rb") as file:
+        content = file.read(MOST_ZONE_BYTES)
     if not content.startswith(TZIF):
         content = content.strip()
     return Zone(str(path), "/".join(name.parts[1:]), content)
 
 
-def _read_file(folder: Folder, path: Path) -> None:
+def _read_file(folder: Folder, path: Path, bounds: Bounds) -> bool:
+    """Reads a file's documents; False where the folder has more than any office takes."""
     file = str(path)
-    content = path.read_bytes()
-    try:
-        text = content.decode("utf-8-sig")
-    except UnicodeDecodeError as fault:
-        before = content[: fault.start]
-        place = Place(before.count(b"\n") + 1, fault.start - before.rfind(b"\n"))
-        folder.faults.append(Told(file, Fault(place, "not_utf8")))
-        return
-    reading = read_json(text) if path.suffix == ".json" else read_yaml(text)
+    with path.open("rb") as source:
+        content = source.read(bounds.bytes + 1)
+    reading, text = Reading(), ""
+    fault = bounds.fault_of_size(content)
+    if fault is None:
+        text, fault = _text_of(content)
+    if fault is None:
+        reading = _reading(text, path.suffix, bounds)
+    else:
+        reading.faults.append(fault)
     folder.faults += [Told(file, fault) for fault in reading.faults]
     folder.documents += _documents(folder, file, reading)
     if reading.faults:
         folder.unread.update(NAMED.findall(text))
+    return all(fault.rule != "limit" for fault in reading.faults)
+
+
+def _reading(text: str, suffix: str, bounds: Bounds) -> Reading:
+    if suffix == ".json":
+        reading = read_json(text, bounds.nodes)
+        fault = bounds.fault_of_reading(reading)
+    else:
+        fault = bounds.fault(text)
+        reading = read_yaml(text, bounds.nodes) if fault is None else Reading()
+        bounds.nodes = reading.left
+    return reading if fault is None else Reading([], [fault])
+
+
+def _text_of(content: bytes) -> tuple[str, Optional[Fault]]:
+    try:
+        return content.decode("utf-8-sig"), None
+    except UnicodeDecodeError as fault:
+        before = content[: fault.start]
+        place = Place(before.count(b"\n") + 1, fault.start - before.rfind(b"\n"))
+        return "", Fault(place, "not_utf8")
 
 
 def _documents(folder: Folder, file: str, reading: Reading) -> Iterator[Document]:
@@ -122,4 +178,9 @@ def _documents(folder: Folder, file: str, reading: Reading) -> Iterator[Document
             folder.faults += [Told(file, fault) for fault in faults]
             continue
         plain = with_plain_numbers(node)
-        yield Document(file, plain, written(plain), tuple(objects_in(plain)))
+        text = written(plain)
+        if len(text.encode("utf-8")) > MOST_DOCUMENT_BYTES:
+            why = f"a document has at most {MOST_DOCUMENT_BYTES:,} bytes"
+            folder.faults.append(Told(file, Fault(node.place, "limit", "document", why)))
+            continue
+        yield Document(file, plain, text, tuple(objects_in(plain)))

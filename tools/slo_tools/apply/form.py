@@ -19,6 +19,8 @@ from slo_tools.spelling import minutes_of_duration
 VERSION = "openslo/v1"
 MAX_DESCRIPTION = 1_050
 MAX_WINDOW = 527_040
+# Of a document, and of a folder: nobody reads more.
+MOST_FAULTS = 1_000
 MAX_LOOKBACK = 43_200
 
 NAME = re.compile(r"[a-z0-9]([a-z0-9-]{0,61}[a-z0-9])?")
@@ -47,7 +49,8 @@ class Faults:
         self.found: list[Fault] = []
 
     def add(self, place: Place, rule: str, path: str) -> None:
-        self.found.append(Fault(place, rule, path))
+        if len(self.found) < MOST_FAULTS:
+            self.found.append(Fault(place, rule, path))
 
     def map(self, node: Node, path: str, table: Sequence[Key]) -> bool:
         """Judges a map by its table."""
@@ -169,9 +172,13 @@ def _duration(least: int, most: int) -> Form:
     return judge
 
 
+def slice_minutes(text: str) -> Optional[int]:
+    """The width of a slice, which is written as digits or as a duration; None where it is none."""
+    return minutes_of_duration(f"{text}m" if text.isdigit() else text)
+
+
 def _slice_window(faults: Faults, node: Node, path: str) -> None:
-    text = node.text if isinstance(node, Scalar) else ""
-    minutes = int(text) if re.fullmatch(r"\d+", text, re.ASCII) else minutes_of_duration(text)
+    minutes = slice_minutes(node.text) if isinstance(node, Scalar) else None
     if minutes is None:
         faults.add(node.place, "not_duration", path)
     elif not 1 <= minutes <= 60 or 60 % minutes:
@@ -339,14 +346,15 @@ def _policies(faults: Faults, node: Node, path: str) -> None:
     faults.items(node, path, _policy_item, most=10)
     seen: set[str] = set()
     for number, item in enumerate(node.items if isinstance(node, Items) else ()):
-        name = _policy_name(item)
+        name = policy_name(item)
         if name is not None and name.text in seen:
             faults.add(name.place, "repeated", f"{path}[{number}]")
         elif name is not None:
             seen.add(name.text)
 
 
-def _policy_name(item: Node) -> Optional[Scalar]:
+def policy_name(item: Node) -> Optional[Scalar]:
+    """The name of an item of `alertPolicies`: a name, a reference or a policy that stands there."""
     if isinstance(item, Scalar):
         return item
     if isinstance(item, Fields):
@@ -457,6 +465,7 @@ RULES = {
     "json": "this is no JSON",
     "bad_zone": "the file is no time zone",
     "not_utf8": "the text isn't UTF-8",
+    "not_file": "this is no file, or leads to none",
     "control": "a control character",
     "limit": "there is too much",
 }

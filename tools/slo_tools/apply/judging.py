@@ -8,7 +8,7 @@ from dataclasses import dataclass
 from typing import Optional
 
 from slo_tools.apply.folder import Document, Folder, Told
-from slo_tools.apply.form import NAME, faults_of, key_of
+from slo_tools.apply.form import MOST_FAULTS, NAME, faults_of, key_of
 from slo_tools.apply.scratch import Answer, Message, Scratch
 from slo_tools.nodes import Fault, Fields, Items, Node, Place, Scalar, items_at, node_at, text_at
 from slo_tools.openslo import BUILT_IN_POLICIES, KINDS_BY_REFERENCE, references_of
@@ -125,11 +125,15 @@ class _Judge:
         self.documents = documents
         self.known = set(base.texts) | {("AlertPolicy", name) for name in BUILT_IN_POLICIES}
         self.counts = _names(documents)
+        # Names that stand nowhere, for each of which something stands in.
+        self.nowhere: set[Name] = set()
         self.first: dict[Name, tuple[str, str, Place]] = {}
         self.told: list[Told] = []
 
     def faults(self) -> list[Told]:
         for document in self.documents:
+            if len(self.told) >= MOST_FAULTS:
+                break
             self._nowhere(document)
             answer = self._post(document.text)
             if answer.status == 200:
@@ -167,9 +171,13 @@ class _Judge:
         for found in document.objects:
             for reference in references_of(found):
                 name = (reference.kind, reference.name)
-                if name in self.known | own or not NAME.fullmatch(reference.name):
+                if name in self.known or name in own or not NAME.fullmatch(reference.name):
                     continue
-                self._define_stand_in(reference.kind, reference.name, None)
+                if len(self.told) >= MOST_FAULTS:
+                    return
+                if name not in self.nowhere:
+                    self.nowhere.add(name)
+                    self._define_stand_in(reference.kind, reference.name, None)
                 if reference.name not in self.unread:
                     path = found.at(reference.path)
                     why = f"{reference.kind} {reference.name}"
