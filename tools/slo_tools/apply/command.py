@@ -21,7 +21,8 @@ from slo_tools.apply.planning import (
     sampled_by,
 )
 from slo_tools.apply.scratch import ScratchFault
-from slo_tools.apply.telling import fault_line, in_order, shown, tell
+from slo_tools.apply.slices import sights_of
+from slo_tools.apply.telling import fault_line, in_order, shown, tell, warning_line
 from slo_tools.office import Pauses
 from slo_tools.office_options import add_office_options, office_of
 from slo_tools.refusals import OfficeError
@@ -46,6 +47,11 @@ def parser() -> argparse.ArgumentParser:
         "--with-office",
         action="store_true",
         help="let the folder refer to objects that the running office alone has",
+    )
+    made.add_argument(
+        "--allow-silent-policies",
+        action="store_true",
+        help="take a policy that can never fire on an SLO's slices",
     )
     made.add_argument(
         "--program",
@@ -83,7 +89,7 @@ def _run(options: argparse.Namespace) -> int:
             running = running_of(office)
         base = Base(running.texts, running.zones)
     judged = judge(options.program, folder, base)
-    if _tell_faults(folder, judged.faults):
+    if _tell_faults(options, folder, base, judged.faults):
         return FAULTY
     if options.check:
         print(f"{_count(len(judged.texts), 'object')}, no fault")
@@ -117,8 +123,16 @@ def _run(options: argparse.Namespace) -> int:
     return FAULTY if done.faults else DONE
 
 
-def _tell_faults(folder: Folder, faults: list[Told]) -> bool:
-    """Tells the faults of a folder; whether there are any."""
+def _tell_faults(
+    options: argparse.Namespace, folder: Folder, base: Base, found: list[Told]
+) -> bool:
+    """Tells the faults of a folder, and what is no fault but has to be known; whether there are
+    faults."""
+    sights = sights_of(folder.documents, base.texts)
+    faults, warnings = [*found, *sights.faults], sights.warnings
+    if options.allow_silent_policies:
+        faults, warnings = found, [*sights.faults, *sights.warnings]
+    tell(map(warning_line, in_order(folder.let_out(warnings))), sys.stderr)
     tell(map(fault_line, in_order(folder.let_out(faults))), sys.stderr)
     if faults:
         print(f"slo-apply: {_count(len(faults), 'fault')}", file=sys.stderr)

@@ -468,4 +468,6 @@ RULES = {
     "not_file": "this is no file, or leads to none",
     "control": "a control character",
     "limit": "there is too much",
+    "no_slice": "the policy can never fire on slices of this width",
+    "few_slices": "the policy can't be active at each minute on slices of this width",
 }
