@@ -464,6 +464,48 @@ class Applying(Folders):
         self.assertEqual((status, done[:-1]), (0, changes[:-1]))
         self.assertEqual(self.apply(office, "--plan", "--prune")[0], 0)
 
+    def test_a_plan_over_characters_that_yaml_does_not_print(self) -> None:
+        """Status 1 says that there is something to do, so a plan never ends by a traceback."""
+        shutil.copytree(UPSTREAM, self.folder, dirs_exist_ok=True)
+        office = self.office()
+        self.apply(office)
+        odd = "a\x80b\x85c\u2028d\uffffe\ufefff"
+        named = f'metadata:\n  name: odd\n  displayName: "{odd}"\n'
+        own = slo("odd", "foo", "odd").replace("metadata:\n  name: odd\n", named)
+        sli = (
+            f"apiVersion: openslo/v1\nkind: SLI\n{named}spec:\n  ratioMetric:\n"
+            "    total:\n      metricSource: {}\n    good:\n      metricSource: {}\n"
+        )
+        office.client().ask("POST", ["objects"], body=f"{sli}---\n{own}".encode())
+        office.client().ask("POST", ["samples"], body=f"odd,web,{NOW - 5},1,1,10\n".encode())
+        for words in (("--plan",), ("--plan", "--with-office")):
+            status, told, faults = self.apply(office, *words)
+            self.assertEqual((status, faults), (0, ""), told)
+            self.assertIn("  SLO odd isn't in the folder (--prune removes it)", told)
+        status, told, faults = self.apply(office, "--plan", "--prune")
+        self.assertEqual((status, told[:-1]), (1, ["- SLO odd", "  SLI odd has samples and stays"]))
+        spelled = r"a\x80b\x85c\u2028d\uffffe\ufefff"
+        self.write("odd.yaml", f"{sli}---\n{own}".replace(odd, spelled))
+        self.assertEqual(self.apply(office, "--plan")[0], 0)
+        self.write("odd.yaml", f"{sli}---\n{own}".replace(odd, spelled + "!"))
+        status, told, faults = self.apply(office, "--plan")
+        self.assertEqual(status, 1, faults)
+        self.assertEqual(
+            [line for line in told if "!" in line], [f'    +  displayName: "{spelled}!"'] * 2
+        )
+        self.assertEqual(self.apply(office)[0], 0)
+        self.assertEqual(self.apply(office, "--plan", "--prune")[0], 0)
+
+    def test_a_plan_prints_where_only_ascii_prints(self) -> None:
+        office = self.office()
+        self.write("a.yaml", ONE_SERVICE % "a")
+        self.apply(office)
+        self.write("a.yaml", (ONE_SERVICE % "a").replace("{name: a}", "{name: a, displayName: ≥}"))
+        words = ("--plan", "--office", office.address, str(self.folder))
+        run = run_tool("slo-apply", *words, PYTHONIOENCODING="ascii")
+        self.assertEqual((run.returncode, run.stderr), (1, ""))
+        self.assertIn("\\u2265", run.stdout)
+
     def test_faults_change_nothing(self) -> None:
         office = self.office()
         self.write(

@@ -3,6 +3,7 @@
 from __future__ import annotations
 
 import argparse
+import io
 import os
 import sys
 from pathlib import Path
@@ -69,12 +70,19 @@ def main(words: Optional[list[str]] = None) -> int:
     options = made.parse_args(words)
     if options.prune and options.with_office:
         made.error("--prune removes what --with-office would keep")
+    if isinstance(sys.stdout, io.TextIOWrapper):
+        sys.stdout.reconfigure(errors="backslashreplace")
     try:
         status = _run(options)
         sys.stdout.flush()
         return status
     except (OfficeError, OSError, ScratchFault, ValueError) as fault:
         print(f"slo-apply: {shown(str(fault))}", file=sys.stderr)
+        return FAULTY
+    except Exception as fault:
+        # A traceback ends with the status that says that there is something to do.
+        why = shown(f"{type(fault).__name__}: {fault}")
+        print(f"slo-apply: a fault of this program, nothing more is done: {why}", file=sys.stderr)
         return FAULTY
 
 
@@ -115,10 +123,10 @@ def _run(options: argparse.Namespace) -> int:
             return _tell(plan)
         done = carry_out(office, plan)
     for line in done.lines:
-        print(line)
+        print(shown(line))
     _tell_sampled(plan)
     for fault in done.faults:
-        print(f"slo-apply: {fault}", file=sys.stderr)
+        print(f"slo-apply: {shown(fault)}", file=sys.stderr)
     _sum_up(plan, "done")
     return FAULTY if done.faults else DONE
 
@@ -142,10 +150,10 @@ def _tell_faults(
 def _tell(plan: Plan) -> int:
     details = {line: definition for line, definition in zip(_names(plan), plan.definitions)}
     for line in lines_of(plan):
-        print(line)
+        print(shown(line))
         if line in details:
             for difference in differences_of(details[line]):
-                print(difference)
+                print(shown(difference))
     for name in plan.beside:
         print(f"  {' '.join(name)} isn't in the folder (--prune removes it)")
     _tell_sampled(plan)

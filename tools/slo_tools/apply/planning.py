@@ -10,11 +10,11 @@ from typing import Optional
 from slo_tools.apply.folder import Zone
 from slo_tools.apply.judging import Name, calendar_zones, joined, rank_of
 from slo_tools.freshness import LONGEST
-from slo_tools.nodes import node_at, text_at
+from slo_tools.nodes import Fields, node_at, text_at
 from slo_tools.office import Office
 from slo_tools.openslo import METRIC_PATHS
 from slo_tools.refusals import NotFound, Refusal
-from slo_tools.yaml_reading import read_yaml
+from slo_tools.yaml_reading import NotWritten, read_written
 
 
 @dataclass(frozen=True)
@@ -66,10 +66,17 @@ def running_of(office: Office) -> Running:
     """All objects of an office."""
     names = [(o.kind, o.name) for o in office.objects()[1]]
     texts = {name: office.object_text(*name) for name in names}
-    slos = [text for name, text in texts.items() if name[0] == "SLO"]
-    nodes = [node for text in slos for node in read_yaml(text).documents]
+    nodes = [node_of(name, text) for name, text in texts.items() if name[0] == "SLO"]
     named, kept = frozenset(calendar_zones(nodes)), _kept_zones(office)
     return Running(texts, named | kept, kept - named)
+
+
+def node_of(name: Name, text: str) -> Fields:
+    """An object as the office writes it. Raises ValueError where it isn't written so."""
+    try:
+        return read_written(text)
+    except NotWritten as fault:
+        raise ValueError(f"the office's {spelled(name)} isn't written as it should be: {fault}")
 
 
 def _kept_zones(office: Office) -> frozenset[str]:
@@ -113,14 +120,15 @@ def refused_readings(plan: Plan, has_samples: Callable[[str], bool]) -> list[str
         for definition in plan.definitions
         if definition.name[0] == "SLI"
         and definition.before is not None
-        and _reading(definition.before) != _reading(definition.text)
+        and _reading(definition.name, definition.before)
+        != _reading(definition.name, definition.text)
         and has_samples(definition.name[1])
     ]
 
 
-def _reading(text: str) -> tuple[Optional[str], ...]:
+def _reading(name: Name, text: str) -> tuple[Optional[str], ...]:
     """What an indicator's amounts are read as."""
-    document = read_yaml(text).documents[0]
+    document = node_of(name, text)
     raw_type = text_at(document, "spec", "ratioMetric", "rawType")
     for path in METRIC_PATHS:
         # A total stands beside good or bad, which say how it is read.
@@ -131,10 +139,10 @@ def _reading(text: str) -> tuple[Optional[str], ...]:
 
 def sampled_by(office: Office, running: Running, sli: str) -> bool:
     """Whether an SLO that runs has counted events of an indicator, excluded minutes left out."""
-    for (kind, name), text in running.texts.items():
-        if kind == "SLO":
-            document = read_yaml(text).documents[0]
-            if text_at(document, "spec", "indicatorRef") == sli and _has_counted(office, name):
+    for name, text in running.texts.items():
+        if name[0] == "SLO":
+            document = node_of(name, text)
+            if text_at(document, "spec", "indicatorRef") == sli and _has_counted(office, name[1]):
                 return True
     return False
 
@@ -168,20 +176,22 @@ def differences_of(definition: Definition) -> Iterator[str]:
     """The difference of the texts of an object that changes."""
     if definition.before is None:
         return
-    before, after = definition.before.splitlines(), definition.text.splitlines()
+    # Other characters that count as a line's end elsewhere stand inside texts.
+    before, after = definition.before.split("\n")[:-1], definition.text.split("\n")[:-1]
     for line in difflib.unified_diff(before, after, "office", "folder", lineterm="", n=2):
         yield f"    {line}"
 
 
 def _definition_line(definition: Definition) -> str:
-    return f"{'+' if definition.before is None else '~'} {_spelled(definition.name)}"
+    return f"{'+' if definition.before is None else '~'} {spelled(definition.name)}"
 
 
 def _removal_line(name: Name) -> str:
-    return f"- {_spelled(name)}"
+    return f"- {spelled(name)}"
 
 
-def _spelled(name: Name) -> str:
+def spelled(name: Name) -> str:
+    """An object's kind and name."""
     return " ".join(name)
 
 
@@ -207,7 +217,7 @@ def carry_out(office: Office, plan: Plan) -> Done:
         try:
             office.remove(*name)
         except Refusal as refusal:
-            done.faults.append(f"the office refuses to remove {_spelled(name)}: {refusal}")
+            done.faults.append(f"the office refuses to remove {spelled(name)}: {refusal}")
         else:
             done.lines.append(_removal_line(name))
     return done

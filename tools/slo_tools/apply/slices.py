@@ -13,11 +13,11 @@ from typing import NamedTuple, Optional
 
 from slo_tools.apply.folder import Document, Told
 from slo_tools.apply.form import policy_name, slice_minutes
+from slo_tools.apply.planning import node_of
 from slo_tools.nodes import Fault, Fields, Node, Scalar, items_at, node_at, text_at
 from slo_tools.objects import BUILT_IN
-from slo_tools.openslo import Found, objects_in
+from slo_tools.openslo import Found
 from slo_tools.spelling import minutes_of_duration
-from slo_tools.yaml_reading import read_yaml
 
 SLICED = ("Timeslices", "RatioTimeslices")
 WIDTHS = (1, 2, 3, 4, 5, 6, 10, 12, 15, 20, 30, 60)
@@ -89,10 +89,9 @@ def sights_of(documents: Sequence[Document], running: Mapping[Name, str]) -> Sig
 
 def _objects(documents: Sequence[Document], running: Mapping[Name, str]) -> dict[Name, Fields]:
     known: dict[Name, Fields] = {}
-    for (kind, _), text in running.items():
-        if kind in ("AlertPolicy", "AlertCondition"):
-            for node in read_yaml(text).documents:
-                known.update({(found.kind, found.name): found.node for found in objects_in(node)})
+    for name, text in running.items():
+        if name[0] in ("AlertPolicy", "AlertCondition"):
+            known[name] = node_of(name, text)
     for document in documents:
         known.update({(found.kind, found.name): found.node for found in document.objects})
     return known
