@@ -101,7 +101,8 @@ class Judging(Folders):
         self.assertEqual((status, lines[-1]), (2, "slo-apply: 4 faults"))
         self.assertIn("s.yaml:4:8: spec.x: unknown_field: there is no such field", lines)
         self.assertIn(
-            "slo.yaml:15:15: spec.objectives[0].target: out_of_range: it is outside its range",
+            "slo.yaml:15:15: spec.objectives[0].target: out_of_range: it must be below 1;"
+            " did you mean targetPercent: 1.5?",
             lines,
         )
         self.assertIn("slo.yaml:8:17: spec.indicatorRef: unresolved: SLI nowhere", lines)
@@ -116,6 +117,72 @@ class Judging(Folders):
         self.assertIn(f"{place}: unknown_zone: America/New_York", lines)
         shutil.copytree(UPSTREAM / "zones", self.folder / "zones")
         self.assertEqual(self.check()[0], 0)
+
+    def test_a_fault_says_what_is_wanted(self) -> None:
+        sound = slo("a", "s", "s", op="      timeSliceWindow: 5m\n")
+        refused = {
+            ("target: 0.9", "target: 99.9"): (
+                "target: out_of_range: it must be below 1; did you mean targetPercent: 99.9?"
+            ),
+            ("target: 0.9", "target: 99.9%"): (
+                "target: not_number: it must be digits, and maybe a point and at most 9 more;"
+                " below 1; did you mean targetPercent: 99.9?"
+            ),
+            ("target: 0.9", "target: 100"): "target: out_of_range: it must be below 1",
+            ("target: 0.9", "targetPercent: 100"): "out_of_range: it must be below 100",
+            ("Occurrences", "Occurences"): (
+                "spec.budgetingMethod: bad_word: it must be one of Occurrences, Timeslices,"
+                " RatioTimeslices; did you mean Occurrences?"
+            ),
+            ("Occurrences", "Events"): (
+                "bad_word: it must be one of Occurrences, Timeslices, RatioTimeslices"
+            ),
+            ("name: a\n", f"name: {'x' * 64}\n"): (
+                "metadata.name: bad_name: a name has at most 63 characters, this one has 64"
+            ),
+            ("name: a\n", "name: Shop.web_1\n"): (
+                "metadata.name: bad_name: a name has small letters, digits and `-`, which stands"
+                " at neither end; did you mean shop-web-1?"
+            ),
+            ("kind: SLO", "kind: Slo"): (
+                "kind: bad_kind: it must be one of DataSource, Service, SLI, SLO, AlertPolicy,"
+                " AlertCondition, AlertNotificationTarget; did you mean SLO?"
+            ),
+            ("duration: 30d", "duration: 30days"): (
+                "not_duration: it must be digits and one of m, h, d, w, M, Q, Y, as 30d;"
+                " did you mean 30d?"
+            ),
+            ("duration: 30d", "duration: 2Y"): (
+                "out_of_range: it must be above zero and at most 366 days"
+            ),
+            ("timeWindow:", "timeWindows:"): (
+                "spec.timeWindows: unknown_field: there is no such field; did you mean timeWindow?"
+            ),
+            ("isRolling: true", "isRolling: true\n    - duration: 7d\n      isRolling: true"): (
+                "spec.timeWindow: list_length: the list must have exactly 1 item, it has 2"
+            ),
+            ("timeSliceWindow: 5m", "timeSliceWindow: 7m"): (
+                "out_of_range: it must be 1, 2, 3, 4, 5, 6, 10, 12, 15, 20, 30 or 60 minutes,"
+                " as 5 or 5m"
+            ),
+        }
+        self.write("s.yaml", ONE_SERVICE % "s" + SLI)
+        for (old, new), wanted in refused.items():
+            with self.subTest(new=new):
+                self.assertEqual(sound.count(old), 1)
+                self.write("a.yaml", sound.replace(old, new))
+                status, lines = self.check()
+                self.assertEqual(status, 2)
+                self.assertEqual(sum(line.endswith(wanted) for line in lines), 1, lines)
+        self.write("a.yaml", sound)
+        self.assertEqual(self.check()[0], 0)
+
+    def test_a_limit_is_told_with_its_number(self) -> None:
+        for number in range(201):
+            self.write(f"{number:03}.yaml", SLI.replace("name: s\n", f"name: s{number}\n"))
+        status, lines = self.check()
+        self.assertEqual(status, 2)
+        self.assertEqual(lines[0], "200.yaml:1:1: limit: an office has at most 200 SLIs")
 
     def test_200_files_with_ten_planted_faults(self) -> None:
         for number in range(200):
@@ -141,6 +208,12 @@ class Judging(Folders):
 
 
 ONE_SERVICE = "apiVersion: openslo/v1\nkind: Service\nmetadata: {name: %s}\nspec: {}\n---\n"
+
+
+SLI = (
+    "apiVersion: openslo/v1\nkind: SLI\nmetadata:\n  name: s\nspec:\n  ratioMetric:\n"
+    "    total:\n      metricSource: {}\n    good:\n      metricSource: {}\n"
+)
 
 
 class Hostile(Folders):

@@ -13,15 +13,18 @@ from datetime import datetime
 from decimal import Decimal
 from typing import NamedTuple, Optional
 
+from slo_tools.apply import hints
 from slo_tools.nodes import Fault, Fields, Items, Node, Place, Scalar
 from slo_tools.spelling import minutes_of_duration
 
 VERSION = "openslo/v1"
 MAX_DESCRIPTION = 1_050
+MAX_NAME = 63
 MAX_WINDOW = 527_040
 # Of a document, and of a folder: nobody reads more.
 MOST_FAULTS = 1_000
 MAX_LOOKBACK = 43_200
+MINUTES_A_DAY = 1_440
 
 NAME = re.compile(r"[a-z0-9]([a-z0-9-]{0,61}[a-z0-9])?")
 ZONE_NAME = re.compile(r"[A-Za-z0-9._/+-]{1,63}")
@@ -29,6 +32,7 @@ DECIMAL = re.compile(r"(\d+)(?:\.(\d{1,9}))?", re.ASCII)
 MOMENT = re.compile(r"\d{4}-\d\d-\d\d \d\d:\d\d:\d\d", re.ASCII)
 TRUE = ("true", "True", "TRUE")
 FALSE = ("false", "False", "FALSE")
+SLICE_WIDTHS = "it must be 1, 2, 3, 4, 5, 6, 10, 12, 15, 20, 30 or 60 minutes, as 5 or 5m"
 COMPARISONS = ("lte", "gte", "lt", "gt")
 
 Form = Callable[["Faults", Node, str], None]
@@ -48,16 +52,16 @@ class Faults:
     def __init__(self) -> None:
         self.found: list[Fault] = []
 
-    def add(self, place: Place, rule: str, path: str) -> None:
+    def add(self, place: Place, rule: str, path: str, why: str = "") -> None:
         if len(self.found) < MOST_FAULTS:
-            self.found.append(Fault(place, rule, path))
+            self.found.append(Fault(place, rule, path, why))
 
     def map(self, node: Node, path: str, table: Sequence[Key]) -> bool:
         """Judges a map by its table."""
         if not isinstance(node, Fields):
             self.add(node.place, "not_map", path)
             return False
-        known = {line.key for line in table}
+        known = [line.key for line in table]
         for key, form, required in table:
             value = node.get(key)
             if value is not None:
@@ -65,8 +69,11 @@ class Faults:
             elif required:
                 self.add(node.place, "missing", _at(path, key))
         for key_node, value in node.entries:
+            if len(self.found) >= MOST_FAULTS:
+                break
             if key_node.text not in known and not (isinstance(value, Scalar) and value.is_null):
-                self.add(key_node.place, "unknown_field", _at(path, key_node.text))
+                why = hints.of_field(key_node.text, known)
+                self.add(key_node.place, "unknown_field", _at(path, key_node.text), why)
         return True
 
     def items(
@@ -76,7 +83,7 @@ class Faults:
             self.add(node.place, "not_list", path)
             return
         if len(node.items) < least or (most is not None and len(node.items) > most):
-            self.add(node.place, "list_length", path)
+            self.add(node.place, "list_length", path, hints.of_length(len(node.items), least, most))
             return
         for number, item in enumerate(node.items):
             form(self, item, f"{path}[{number}]")
@@ -126,23 +133,39 @@ def _description(faults: Faults, node: Node, path: str) -> None:
     if not isinstance(node, Scalar):
         faults.add(node.place, "not_text", path)
     elif len(node.text) > MAX_DESCRIPTION:
-        faults.add(node.place, "too_long", path)
+        why = (
+            f"a description has at most {MAX_DESCRIPTION:,} characters, this has {len(node.text):,}"
+        )
+        faults.add(node.place, "too_long", path, why)
 
 
-def _matching(pattern: re.Pattern[str], rule: str) -> Form:
-    def judge(faults: Faults, node: Node, path: str) -> None:
-        if not isinstance(node, Scalar) or not pattern.fullmatch(node.text):
-            faults.add(node.place, rule, path)
+def _name(faults: Faults, node: Node, path: str) -> None:
+    if not isinstance(node, Scalar) or not NAME.fullmatch(node.text):
+        faults.add(node.place, "bad_name", path, _name_hint(node))
 
-    return judge
+
+def _name_hint(node: Node) -> str:
+    return hints.of_name(node.text, MAX_NAME, NAME) if isinstance(node, Scalar) else ""
+
+
+def _zone_name(faults: Faults, node: Node, path: str) -> None:
+    if not isinstance(node, Scalar) or not ZONE_NAME.fullmatch(node.text):
+        why = "a zone's name has 1 to 63 letters, digits and . _ - / +, as Europe/Berlin"
+        faults.add(node.place, "bad_name", path, why)
 
 
 def _word(words: Sequence[str], rule: str = "bad_word") -> Form:
     def judge(faults: Faults, node: Node, path: str) -> None:
         if not isinstance(node, Scalar) or node.text not in words:
-            faults.add(node.place, rule, path)
+            text = node.text if isinstance(node, Scalar) else ""
+            faults.add(node.place, rule, path, hints.of_words(text, words))
 
     return judge
+
+
+def _bool(faults: Faults, node: Node, path: str) -> None:
+    if not isinstance(node, Scalar) or node.text not in TRUE + FALSE:
+        faults.add(node.place, "not_bool", path)
 
 
 def _free_map(faults: Faults, node: Node, path: str) -> None:
@@ -150,24 +173,37 @@ def _free_map(faults: Faults, node: Node, path: str) -> None:
         faults.add(node.place, "not_map", path)
 
 
-def _number(is_within: Callable[[Decimal], bool], decimals: int = 9) -> Form:
+def _number(is_within: Callable[[Decimal], bool], range_: str, decimals: int = 9) -> Form:
     def judge(faults: Faults, node: Node, path: str) -> None:
         found = DECIMAL.fullmatch(node.text) if isinstance(node, Scalar) else None
         if found is None or len(found[2] or "") > decimals:
-            faults.add(node.place, "not_number", path)
+            why = f"it must be digits, and maybe a point and at most {decimals} more"
+            faults.add(node.place, "not_number", path, f"{why}; {range_}")
         elif not is_within(Decimal(found[0])):
-            faults.add(node.place, "out_of_range", path)
+            faults.add(node.place, "out_of_range", path, f"it must be {range_}")
 
     return judge
 
 
+def _objective_target(faults: Faults, node: Node, path: str) -> None:
+    own = Faults()
+    _number(lambda n: n < 1, "below 1")(own, node, path)
+    for fault in own.found:
+        meant = hints.of_percent(node.text) if isinstance(node, Scalar) else ""
+        faults.add(fault.place, fault.rule, path, f"{fault.why}{meant}")
+
+
 def _duration(least: int, most: int) -> Form:
+    days = f"at most {most // MINUTES_A_DAY} days"
+    range_ = f"above zero and {days}" if least else days
+
     def judge(faults: Faults, node: Node, path: str) -> None:
         minutes = minutes_of_duration(node.text) if isinstance(node, Scalar) else None
         if minutes is None:
-            faults.add(node.place, "not_duration", path)
+            text = node.text if isinstance(node, Scalar) else ""
+            faults.add(node.place, "not_duration", path, hints.of_duration(text))
         elif not least <= minutes <= most:
-            faults.add(node.place, "out_of_range", path)
+            faults.add(node.place, "out_of_range", path, f"it must be {range_}")
 
     return judge
 
@@ -180,9 +216,9 @@ def slice_minutes(text: str) -> Optional[int]:
 def _slice_window(faults: Faults, node: Node, path: str) -> None:
     minutes = slice_minutes(node.text) if isinstance(node, Scalar) else None
     if minutes is None:
-        faults.add(node.place, "not_duration", path)
+        faults.add(node.place, "not_duration", path, SLICE_WIDTHS)
     elif not 1 <= minutes <= 60 or 60 % minutes:
-        faults.add(node.place, "out_of_range", path)
+        faults.add(node.place, "out_of_range", path, SLICE_WIDTHS)
 
 
 def _moment(faults: Faults, node: Node, path: str) -> None:
@@ -194,11 +230,10 @@ def _moment(faults: Faults, node: Node, path: str) -> None:
         else:
             if 1971 <= moment.year <= 2097 and moment.second <= 59:
                 return
-    faults.add(node.place, "not_moment", path)
+    why = "it must be a moment as 2026-01-31 12:30:00, of the years 1971 to 2097"
+    faults.add(node.place, "not_moment", path, why)
 
 
-_name = _matching(NAME, "bad_name")
-_bool = _word(TRUE + FALSE, "not_bool")
 _version = _word([VERSION], "bad_version")
 
 
@@ -291,8 +326,7 @@ def _sli(faults: Faults, node: Node, path: str) -> None:
 
 
 def _calendar(faults: Faults, node: Node, path: str) -> None:
-    zone = _matching(ZONE_NAME, "bad_name")
-    faults.map(node, path, [Key("startTime", _moment, True), Key("timeZone", zone, True)])
+    faults.map(node, path, [Key("startTime", _moment, True), Key("timeZone", _zone_name, True)])
 
 
 def _window(faults: Faults, node: Node, path: str) -> None:
@@ -310,7 +344,11 @@ def _window(faults: Faults, node: Node, path: str) -> None:
     if is_rolling and calendar is not None:
         faults.add(calendar[0].place, "both", _at(path, "calendar"))
     if not is_rolling and isinstance(duration, Scalar) and duration.text[-1:] in ("m", "h"):
-        faults.add(duration.place, "out_of_range", _at(path, "duration"))
+        why = "a window that isn't rolling has d, w, M, Q or Y"
+        faults.add(duration.place, "out_of_range", _at(path, "duration"), why)
+
+
+_slice_target = _number(lambda n: 0 < n <= 1, "above 0 and at most 1")
 
 
 def _objective(method: str) -> Form:
@@ -319,10 +357,10 @@ def _objective(method: str) -> Form:
         table = [
             Key("displayName", _text),
             Key("op", _word(COMPARISONS)),
-            Key("value", _number(lambda n: n <= 10**9)),
-            Key("target", _number(lambda n: n < 1)),
-            Key("targetPercent", _number(lambda n: n < 100, 7)),
-            Key("timeSliceTarget", _number(lambda n: 0 < n <= 1), method == "Timeslices"),
+            Key("value", _number(lambda n: n <= 10**9, "at most 1,000,000,000")),
+            Key("target", _objective_target),
+            Key("targetPercent", _number(lambda n: n < 100, "below 100", 7)),
+            Key("timeSliceTarget", _slice_target, method == "Timeslices"),
             Key("timeSliceWindow", _slice_window, is_sliced),
         ]
         if faults.map(node, path, table):
@@ -335,7 +373,7 @@ def _objective(method: str) -> Form:
 def _policy_item(faults: Faults, node: Node, path: str) -> None:
     if isinstance(node, Scalar):
         if node.is_null or not NAME.fullmatch(node.text):
-            faults.add(node.place, "bad_name", path)
+            faults.add(node.place, "bad_name", path, _name_hint(node))
     elif isinstance(node, Items):
         faults.add(node.place, "not_map", path)
     else:
@@ -402,7 +440,7 @@ def _burn_condition(faults: Faults, node: Node, path: str) -> None:
     table = [
         Key("kind", _word(["burnrate"])),
         Key("op", _word(COMPARISONS)),
-        Key("threshold", _number(lambda n: n <= 10_000), True),
+        Key("threshold", _number(lambda n: n <= 10_000, "at most 10,000"), True),
         Key("lookbackWindow", _duration(1, MAX_LOOKBACK), True),
         Key("alertAfter", _duration(0, MAX_LOOKBACK)),
     ]

@@ -9,6 +9,7 @@ from typing import Optional
 
 from slo_tools.apply.folder import Document, Folder, Told
 from slo_tools.apply.form import MOST_FAULTS, NAME, faults_of, key_of
+from slo_tools.apply.hints import of_limit
 from slo_tools.apply.scratch import Answer, Message, Scratch
 from slo_tools.nodes import Fault, Fields, Items, Node, Place, Scalar, items_at, node_at, text_at
 from slo_tools.openslo import BUILT_IN_POLICIES, KINDS_BY_REFERENCE, references_of
@@ -264,7 +265,7 @@ def _fault_of(document: Document, word: str, answer: Answer) -> Fault:
         named = [f for f in document.objects if f.name == members["name"]]
         if named:
             return Fault(named[-1].place, word, named[-1].at("metadata.name"), named[-1].name)
-    why = str(members.get("which", "")) if word == "limit" else answer.text
+    why = of_limit(str(members.get("which", ""))) if word == "limit" else answer.text
     return Fault(document.node.place, word or "refused", why=why)
 
 

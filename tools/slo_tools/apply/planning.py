@@ -8,6 +8,7 @@ from dataclasses import dataclass, field
 from typing import Optional
 
 from slo_tools.apply.folder import Zone
+from slo_tools.apply.hints import of_refusal
 from slo_tools.apply.judging import Name, calendar_zones, joined, rank_of
 from slo_tools.freshness import LONGEST
 from slo_tools.nodes import Fields, node_at, text_at
@@ -202,7 +203,7 @@ def carry_out(office: Office, plan: Plan) -> Done:
         try:
             office.keep_zone(zone.name, zone.content)
         except Refusal as refusal:
-            done.faults.append(f"{zone.file}: {refusal}")
+            done.faults.append(f"{zone.file}: {_hinted(refusal)}")
             return done
         if zone not in plan.kept:
             done.lines.append(f"+ zone {zone.name}")
@@ -210,17 +211,21 @@ def carry_out(office: Office, plan: Plan) -> Done:
         try:
             office.define(text)
         except Refusal as refusal:
-            done.faults.append(f"the office refuses to define: {refusal}")
+            done.faults.append(f"the office refuses to define: {_hinted(refusal)}")
             return done
         done.lines += [_definition_line(definition) for definition in definitions]
     for name in plan.removals:
         try:
             office.remove(*name)
         except Refusal as refusal:
-            done.faults.append(f"the office refuses to remove {spelled(name)}: {refusal}")
+            done.faults.append(f"the office refuses to remove {spelled(name)}: {_hinted(refusal)}")
         else:
             done.lines.append(_removal_line(name))
     return done
+
+
+def _hinted(refusal: Refusal) -> str:
+    return f"{refusal}{of_refusal(refusal.word, refusal.members)}"
 
 
 def _batches(definitions: list[Definition]) -> Iterator[tuple[list[Definition], bytes]]:
