@@ -8,14 +8,18 @@ import unittest
 from decimal import Decimal
 from pathlib import Path
 
+from engines import data_source, sli
 from support import TOOLS
 
 from slo_tools.clock import date_of, minute_of_date
 from slo_tools.feed.cells import Amount, Cell, amounts_of, source_name, stretch_minute
 from slo_tools.feed.config import Config, read_config
 from slo_tools.feed.engine import QueryFault
+from slo_tools.feed.objects import data_source as source_of
+from slo_tools.feed.objects import query_faults
 from slo_tools.feed.prometheus import NotWhole, minute_of_sample, whole
-from slo_tools.feed.promql import selectors
+from slo_tools.feed.promql import fault_of, selectors
+from slo_tools.objects import read_document
 from slo_tools.office import is_label
 from slo_tools.settings import ConfigFault
 
@@ -59,6 +63,29 @@ class QueryTest(unittest.TestCase):
         ):
             with self.subTest(query), self.assertRaises(QueryFault):
                 selectors(query)
+
+    def test_why_a_query_is_refused(self) -> None:
+        self.assertIsNone(fault_of('sum(requests{code!~"5.."})'))
+        table = {
+            "rate(a[5m])": "rate(..) is no counter; name the counter's own series",
+            "a - b": "'-' has no place in a query of counters",
+            "a or vector(0)": "'or' has no place in a query of counters",
+            "sum(a": "'the end' stands where ')' is wanted",
+            "(" * 100_000: "more than 50 brackets stand inside one another",
+            "sum(" * 100_000: "more than 50 brackets stand inside one another",
+        }
+        for query, why in table.items():
+            with self.subTest(query[:20]):
+                self.assertEqual(fault_of(query), why)
+
+    def test_the_queries_of_an_sli(self) -> None:
+        for kind, refused in (("Prometheus", ["rate(..) is no counter; name"]), ("ClickHouse", [])):
+            source = source_of(read_document(data_source("here", kind, url="http://a")))
+            document = read_document(sli("shop", "here", "rate(a[1m])", "a"))
+            with self.subTest(kind):
+                told = query_faults(document, {"here": source})
+                self.assertEqual([why[:28] for why in told], refused)
+        self.assertEqual(query_faults(document, {}), [])
 
 
 class NamesTest(unittest.TestCase):

@@ -8,6 +8,7 @@ from typing import Any, Optional
 
 from slo_tools.feed.config import Config, IndicatorConfig
 from slo_tools.feed.engine import Form, Indicator
+from slo_tools.feed.promql import fault_of
 from slo_tools.objects import Document, map_of, object_of
 from slo_tools.office import Office
 
@@ -106,6 +107,19 @@ def indicator_of(
         gap=config.gap,
         ratio="raw" in ratio,
     )
+
+
+def query_faults(document: Document, sources: Mapping[str, DataSource]) -> list[str]:
+    """Why the feed won't count by an SLI's queries: those of counters of a Prometheus. What only
+    the feed's configuration or the engine itself can tell isn't looked at."""
+    try:
+        indicator = indicator_of(document, IndicatorConfig(), sources)
+    except LeftOut:
+        return []
+    is_read = sources[indicator.engine].type == "Prometheus" and indicator.form is Form.COUNTERS
+    queries = (indicator.part, indicator.total or "") if is_read else ()
+    found = (fault_of(query) for query in dict.fromkeys(queries))
+    return [why for why in found if why is not None]
 
 
 @dataclass(frozen=True)

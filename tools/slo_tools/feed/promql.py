@@ -8,8 +8,12 @@ selector, a `sum` of one, or a sum of those by `+`; anything else is refused.
 from __future__ import annotations
 
 import re
+from typing import Optional
 
 from slo_tools.feed.engine import QueryFault
+
+# Brackets inside one another; a query for people has a few.
+_DEEPEST = 50
 
 _NAME = r"[A-Za-z_:][A-Za-z0-9_:]*"
 _LABEL = r"[A-Za-z_][A-Za-z0-9_]*"
@@ -18,6 +22,19 @@ _TOKEN = re.compile(
     rf"(?:\s|#[^\n]*)*(?:(?P<name>{_NAME})|(?P<text>{_TEXT})|(?P<sign>!=|=~|!~|.))", re.DOTALL
 )
 _END = re.compile(r"(?:\s|#[^\n]*)*\Z")
+
+
+def fault_of(query: str) -> Optional[str]:
+    """Why the feed can't count by a query of counters, None where it can.
+
+    >>> fault_of('rate(requests_total[5m])')
+    "rate(..) is no counter; name the counter's own series"
+    """
+    try:
+        selectors(query)
+    except QueryFault as fault:
+        return str(fault)
+    return None
 
 
 def selectors(query: str) -> list[str]:
@@ -55,9 +72,18 @@ class _Reader:
     def __init__(self, tokens: list[Token]) -> None:
         self._tokens = tokens
         self._place = 0
+        self._depth = 0
 
     def term(self) -> str:
         """A selector, `sum(..)` with or without labels, or a term in brackets."""
+        self._depth += 1
+        if self._depth > _DEEPEST:
+            raise QueryFault(f"more than {_DEEPEST} brackets stand inside one another")
+        found = self._term()
+        self._depth -= 1
+        return found
+
+    def _term(self) -> str:
         if self.takes("("):
             inner = self.term()
             self._want(")")
