@@ -177,6 +177,45 @@ class Judging(Folders):
         self.write("a.yaml", sound)
         self.assertEqual(self.check()[0], 0)
 
+    def test_a_query_that_the_feed_refuses_is_a_fault(self) -> None:
+        """As slo-feed itself says of it once it stands in an office (test_words)."""
+        counter = 'requests_total{code=~"2.."}'
+        self.write("s.yaml", ONE_SERVICE % "s" + slo("a", "s", "web"))
+        for engine, good, total, more, told in (
+            ("Prometheus", "rate(a_total[5m])", counter, "", "good of SLI web: rate(..) is no"),
+            ("Prometheus", counter, "a_total - b_total", "", "total of SLI web: '-' has no place"),
+            ("Prometheus", counter, "sum(a_total) or vector(0)", "counter: true", "total of SLI"),
+            ("Prometheus", counter, "(" * 5_000 + "a", "", "brackets stand inside one another"),
+            ("Prometheus", counter, "''", "", "total of SLI web: there is no spec.query"),
+            ("ClickHouse", "status < 500", "''", "", "total of SLI web: there is no spec.query"),
+            ("Prometheus", counter, "sum(a_total) + sum(b_total)", "", ""),
+            ("Prometheus", "rate(a_total[5m])", counter, "counter: false", ""),
+            ("ClickHouse", "rate(a)", "a - b", "", ""),
+            ("Datadog", "rate(a)", "''", "", ""),
+        ):
+            with self.subTest(engine=engine, good=good[:20], total=total[:20]):
+                self.write("a.yaml", web(engine, good, total, more))
+                status, lines = self.check()
+                if not told:
+                    self.assertEqual((status, lines), (0, ["4 objects, no fault"]))
+                    continue
+                self.assertEqual((status, len(lines), lines[-1]), (2, 2, "slo-apply: 1 fault"))
+                self.assertRegex(lines[0], r"^a\.yaml:\d+:\d+: spec\.ratioMetric\.(good|total)\.")
+                self.assertIn(": unread_query: slo-feed won't read ", lines[0])
+                self.assertIn(told, lines[0])
+                status, lines = self.check("--allow-unread-queries")
+                self.assertEqual((status, lines[0]), (0, "4 objects, no fault"))
+                self.assertIn(": warning: ", lines[1])
+
+    def test_queries_of_two_engines_are_a_fault(self) -> None:
+        self.write("s.yaml", ONE_SERVICE % "s" + slo("a", "s", "web"))
+        other = "---\napiVersion: openslo/v1\nkind: DataSource\nmetadata: {name: other}\n"
+        text = web("Prometheus", "a_total", "b_total", "") + other + "spec: {type: ClickHouse}\n"
+        self.write("a.yaml", text.replace("metrics, spec: {query: 'b", "other, spec: {query: 'b"))
+        status, lines = self.check()
+        self.assertEqual((status, len(lines)), (2, 2))
+        self.assertIn("the parts are of several DataSources, metrics and other", lines[0])
+
     def test_a_limit_is_told_with_its_number(self) -> None:
         for number in range(201):
             self.write(f"{number:03}.yaml", SLI.replace("name: s\n", f"name: s{number}\n"))
@@ -210,6 +249,18 @@ class Judging(Folders):
 ONE_SERVICE = "apiVersion: openslo/v1\nkind: Service\nmetadata: {name: %s}\nspec: {}\n---\n"
 
 
+def web(engine: str, good: str, total: str, more: str) -> str:
+    """An indicator by queries of a DataSource."""
+    front = f"apiVersion: openslo/v1\nkind: DataSource\nmetadata: {{name: metrics}}\n"
+    metric = "      metricSource: {metricSourceRef: metrics, spec: {query: %s}}\n"
+    parts = [text if text == "''" else f"'{text}'" for text in (good, total)]
+    return (
+        f"{front}spec: {{type: {engine}}}\n---\napiVersion: openslo/v1\nkind: SLI\n"
+        f"metadata:\n  name: web\nspec:\n  ratioMetric:\n    {more}\n"
+        f"    good:\n{metric % parts[0]}    total:\n{metric % parts[1]}"
+    )
+
+
 SLI = (
     "apiVersion: openslo/v1\nkind: SLI\nmetadata:\n  name: s\nspec:\n  ratioMetric:\n"
     "    total:\n      metricSource: {}\n    good:\n      metricSource: {}\n"
@@ -232,11 +283,11 @@ class Hostile(Folders):
     def test_deep_nesting_is_a_fault_of_its_file(self) -> None:
         for name, text, place in (
             ("a.yaml", "[" * 100_000, "1:201"),
-            ("a.yaml", "{a: " * 100_000, "1:801"),
-            ("a.yaml", "- " * 100_000, "1:401"),
+            ("a.yaml", "{a: " * 20_000, "1:801"),
+            ("a.yaml", "- " * 20_000, "1:401"),
             ("a.yaml", "".join(f"{' ' * n}a:\n" for n in range(2_000)), "201:201"),
-            ("a.yaml", "a: b: c\n---\n" + "[" * 100_000, "3:201"),
-            ("a.yaml", "a: \x01\n---\n" + "[" * 100_000, "3:201"),
+            ("a.yaml", "a: b: c\n---\n" + "[" * 20_000, "3:201"),
+            ("a.yaml", "a: \x01\n---\n" + "[" * 20_000, "3:201"),
             ("a.json", "[" * 100_000, "1:34"),
         ):
             with self.subTest(text=text[:20], name=name):

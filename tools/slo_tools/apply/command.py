@@ -21,6 +21,7 @@ from slo_tools.apply.planning import (
     running_of,
     sampled_by,
 )
+from slo_tools.apply.queries import query_faults
 from slo_tools.apply.scratch import ScratchFault
 from slo_tools.apply.slices import sights_of
 from slo_tools.apply.telling import fault_line, in_order, shown, tell, warning_line
@@ -53,6 +54,11 @@ def parser() -> argparse.ArgumentParser:
         "--allow-silent-policies",
         action="store_true",
         help="take a policy that can never fire on an SLO's slices",
+    )
+    made.add_argument(
+        "--allow-unread-queries",
+        action="store_true",
+        help="take queries that slo-feed won't read",
     )
     made.add_argument(
         "--program",
@@ -137,9 +143,10 @@ def _tell_faults(
     """Tells the faults of a folder, and what is no fault but has to be known; whether there are
     faults."""
     sights = sights_of(folder.documents, base.texts)
-    faults, warnings = [*found, *sights.faults], sights.warnings
-    if options.allow_silent_policies:
-        faults, warnings = found, [*sights.faults, *sights.warnings]
+    faults, warnings = list(found), list(sights.warnings)
+    (warnings if options.allow_silent_policies else faults).extend(sights.faults)
+    unread = query_faults(folder.documents, base.texts)
+    (warnings if options.allow_unread_queries else faults).extend(unread)
     tell(map(warning_line, in_order(folder.let_out(warnings))), sys.stderr)
     tell(map(fault_line, in_order(folder.let_out(faults))), sys.stderr)
     if faults:

@@ -507,5 +507,6 @@ RULES = {
     "control": "a control character",
     "limit": "there is too much",
     "no_slice": "the policy can never fire on slices of this width",
+    "unread_query": "slo-feed won't read this query",
     "few_slices": "the policy can't be active at each minute on slices of this width",
 }

@@ -52,7 +52,8 @@ def of_name(text: str, most: int, pattern: re.Pattern[str]) -> str:
     """A name of another form."""
     if len(text) > most:
         return f"a name has at most {most} characters, this one has {len(text):,}"
-    other = re.sub(r"[\s._]+", "-", text.strip().lower()).strip("-")
+    parted = re.sub(r"(?<=[a-z0-9])(?=[A-Z])", "-", text.strip())
+    other = re.sub(r"[\s._]+", "-", parted.lower()).strip("-")
     other = other if pattern.fullmatch(other) else ""
     return "a name has small letters, digits and `-`, which stands at neither end" + _meant(other)
 
