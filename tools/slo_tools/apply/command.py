@@ -10,7 +10,8 @@ from pathlib import Path
 from typing import Optional
 
 from slo_tools.apply.folder import Folder, Told, read_folder
-from slo_tools.apply.judging import Base, calendar_zones, judge
+from slo_tools.apply.judging import Base, Name, calendar_zones, judge
+from slo_tools.apply.past import Past, effects_of
 from slo_tools.apply.planning import (
     Plan,
     carry_out,
@@ -25,7 +26,7 @@ from slo_tools.apply.queries import query_faults
 from slo_tools.apply.scratch import ScratchFault
 from slo_tools.apply.slices import sights_of
 from slo_tools.apply.telling import fault_line, in_order, shown, tell, warning_line
-from slo_tools.office import Pauses
+from slo_tools.office import Office, Pauses
 from slo_tools.office_options import add_office_options, office_of
 from slo_tools.refusals import OfficeError
 
@@ -49,6 +50,11 @@ def parser() -> argparse.ArgumentParser:
         "--with-office",
         action="store_true",
         help="let the folder refer to objects that the running office alone has",
+    )
+    made.add_argument(
+        "--past-changes",
+        action="store_true",
+        help="do what changes windows that are over, exclusions, or rows that count",
     )
     made.add_argument(
         "--allow-silent-policies",
@@ -109,25 +115,40 @@ def _run(options: argparse.Namespace) -> int:
         print(f"{_count(len(judged.texts), 'object')}, no fault")
         return DONE
     with office.kept_link():
-        running = running_of(office)
-        named = calendar_zones(document.node for document in folder.documents)
-        zones = [zone for zone in folder.zones if zone.name in named]
+        return _apply(options, office, folder, judged.texts)
 
-        def has_samples(sli: str) -> bool:
-            return sampled_by(office, running, sli)
 
-        plan = plan_of(judged.texts, zones, running, options.prune, has_samples)
-        refused = refused_readings(plan, has_samples)
-        if refused:
-            for name in refused:
-                print(
-                    f"slo-apply: SLI {name} has samples, and another reading of them is refused",
-                    file=sys.stderr,
-                )
-            return FAULTY
-        if options.plan:
-            return _tell(plan)
-        done = carry_out(office, plan)
+def _apply(
+    options: argparse.Namespace, office: Office, folder: Folder, wanted: dict[Name, str]
+) -> int:
+    """Plans what the office lacks, and does it where that is asked for."""
+    running = running_of(office)
+    named = calendar_zones(document.node for document in folder.documents)
+    zones = [zone for zone in folder.zones if zone.name in named]
+
+    def has_samples(sli: str) -> bool:
+        return sampled_by(office, running, sli)
+
+    plan = plan_of(wanted, zones, running, options.prune, has_samples)
+    refused = refused_readings(plan, has_samples)
+    for name in refused:
+        why = "has samples, and another reading of them is refused"
+        print(f"slo-apply: SLI {name} {why}", file=sys.stderr)
+    if refused:
+        return FAULTY
+    past = Past(options.program, office, running, wanted, folder.zones, has_samples)
+    effects = effects_of(past, plan)
+    if options.plan:
+        return _tell(plan, effects)
+    if effects and not options.past_changes:
+        tell([f"past: {line}" for line in effects], sys.stderr)
+        print("slo-apply: this changes the past, so it wants --past-changes", file=sys.stderr)
+        return FAULTY
+    return _carry_out(office, plan)
+
+
+def _carry_out(office: Office, plan: Plan) -> int:
+    done = carry_out(office, plan)
     for line in done.lines:
         print(shown(line))
     _tell_sampled(plan)
@@ -154,7 +175,7 @@ def _tell_faults(
     return bool(faults)
 
 
-def _tell(plan: Plan) -> int:
+def _tell(plan: Plan, effects: list[str]) -> int:
     details = {line: definition for line, definition in zip(_names(plan), plan.definitions)}
     for line in lines_of(plan):
         print(shown(line))
@@ -164,6 +185,7 @@ def _tell(plan: Plan) -> int:
     for name in plan.beside:
         print(f"  {' '.join(name)} isn't in the folder (--prune removes it)")
     _tell_sampled(plan)
+    tell([f"  past: {shown(line)}" for line in effects], sys.stdout)
     _sum_up(plan, "plan")
     return DONE if plan.is_empty else DIFFERENT
 

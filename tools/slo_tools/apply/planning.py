@@ -46,6 +46,8 @@ class Plan:
     kept: list[Zone] = field(default_factory=list)
     definitions: list[Definition] = field(default_factory=list)
     removals: list[Name] = field(default_factory=list)
+    # The texts of what is removed.
+    gone: dict[Name, str] = field(default_factory=dict)
     same: int = 0
     beside: list[Name] = field(default_factory=list)
     sampled: list[Name] = field(default_factory=list)
@@ -100,6 +102,7 @@ def plan_of(
     changed = [name for name, text in wanted.items() if running.texts.get(name) != text]
     beside = sorted(set(running.texts) - set(wanted), key=lambda name: (-rank_of(name), name))
     sampled = [n for n in beside if prune and n[0] == "SLI" and has_samples(n[1])]
+    removals = [name for name in beside if prune and name not in sampled]
     return Plan(
         zones=[zone for zone in zones if zone.name not in running.zones],
         kept=[zone for zone in zones if zone.name in running.unnamed],
@@ -107,7 +110,8 @@ def plan_of(
             Definition(name, wanted[name], running.texts.get(name))
             for name in sorted(changed, key=lambda name: (rank_of(name), name))
         ],
-        removals=[name for name in beside if prune and name not in sampled],
+        removals=removals,
+        gone={name: running.texts[name] for name in removals},
         same=len(wanted) - len(changed),
         beside=[] if prune else beside,
         sampled=sampled,

@@ -55,13 +55,13 @@ class Answer:
 class Scratch:
     """An office of one's own, for as long as it is needed."""
 
-    def __init__(self, program: str) -> None:
+    def __init__(self, program: str, origin: Optional[int] = None) -> None:
         self.program = os.path.abspath(program) if os.sep in program else program
         parent = MEMORY if os.access(MEMORY, os.W_OK) else None
         self._folder = tempfile.TemporaryDirectory(prefix="slo-apply-", dir=parent)
         self._session: Optional[subprocess.Popen[bytes]] = None
         self._answers = 0
-        made = self._start(["init"])
+        made = self._start(["init"] if origin is None else ["init", str(origin)])
         _, told = made.communicate()
         if made.returncode != 0:
             raise self._fault("init", made.returncode, told)
