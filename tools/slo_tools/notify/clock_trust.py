@@ -3,6 +3,7 @@
 from __future__ import annotations
 
 import ctypes
+import os
 import time
 from collections.abc import Callable
 from dataclasses import dataclass
@@ -12,6 +13,10 @@ from typing import Optional
 TIME_ERROR = 5
 STA_UNSYNC = 0x40
 MOST_SKEW = 60
+WHAT_TO_SET = (
+    "nothing is ticked or paged; let chrony or systemd-timesyncd keep the clock, or set"
+    ' clock = "receiver", which compares it with the receiver\'s alone'
+)
 
 
 class _Timex(ctypes.Structure):
@@ -29,10 +34,14 @@ class _Timex(ctypes.Structure):
 
 
 def kernel_is_synchronised() -> bool:
-    """What the kernel says, whoever keeps its clock (chrony, ntpd, systemd-timesyncd)."""
+    """What the kernel says, whoever keeps its clock (chrony, ntpd, systemd-timesyncd); in a
+    container it is the host's. Raises OSError where it may not be asked."""
     told = _Timex()
     state = ctypes.CDLL(None, use_errno=True).adjtimex(ctypes.byref(told))
-    return 0 <= state < TIME_ERROR and not told.status & STA_UNSYNC
+    if state < 0:
+        number = ctypes.get_errno()
+        raise OSError(number, os.strerror(number))
+    return state < TIME_ERROR and not told.status & STA_UNSYNC
 
 
 @dataclass
@@ -54,7 +63,7 @@ class ClockTrust:
             return
         try:
             seconds = parsedate_to_datetime(date).timestamp()
-        except (TypeError, ValueError):
+        except (TypeError, ValueError, OverflowError):
             return
         self._ahead = seconds - self.steady()
 
@@ -62,14 +71,23 @@ class ClockTrust:
         """Why nothing may be ticked or sent, if something speaks against it."""
         if self.rule == "trusted":
             return None
-        if self.rule == "kernel" and not self.is_synchronised():
-            return "this machine's clock isn't synchronised, by the kernel's word"
+        unkept = self._kernel_fault() if self.rule == "kernel" else None
+        if unkept is not None:
+            return f"{unkept}: {WHAT_TO_SET}"
         if self._ahead is None:
             return "the receiver's clock isn't known yet" if self.rule == "receiver" else None
         skew = self.now() - (self._ahead + self.steady())
         if abs(skew) > MOST_SKEW:
             return f"this machine's clock differs from the receiver's by {skew:.0f} seconds"
         return None
+
+    def _kernel_fault(self) -> Optional[str]:
+        try:
+            if self.is_synchronised():
+                return None
+        except OSError as fault:
+            return f"the kernel may not be asked about this machine's clock ({fault.strerror})"
+        return "this machine's clock isn't synchronised, by the kernel's word"
 
 
 def office_fault(at: Optional[int], now: int) -> Optional[str]:

@@ -11,6 +11,8 @@ from slo_tools.settings import Login, Table, read_settings
 CLOCKS = ("kernel", "receiver", "trusted")
 RECEIVERS = ("alertmanager", "webhook")
 MOST_MINUTES = 43_200
+# slo-feed asks at the fifteenth second of a minute where nothing else is set, and needs some to send.
+SECOND = 30
 
 
 @dataclass(frozen=True)
@@ -34,14 +36,16 @@ class ReceiverConfig:
 
 @dataclass(frozen=True)
 class Config:
-    """Everything that is set: seconds in `every` and `timeout`, else minutes."""
+    """Everything that is set: seconds in `every`, `timeout` and `second`, else minutes."""
 
     every: int
     stale: int
     away: int
     lifetime: int
     timeout: int
+    second: int
     tick: bool
+    watchdog: bool
     clock: str
     link: str
     state: Path
@@ -64,7 +68,9 @@ def _config(table: Table, folder: Path) -> Config:
         away=table.number("away", 5, 1, MOST_MINUTES),
         lifetime=table.number("lifetime", 60, 1, MOST_MINUTES),
         timeout=table.number("timeout", 10, 1, 600),
+        second=table.number("second", SECOND, 0, 59),
         tick=table.truth("tick", True),
+        watchdog=table.truth("watchdog"),
         clock=_clock(table, receiver),
         link=table.text("link") or "",
         state=folder / table.wanted("state"),

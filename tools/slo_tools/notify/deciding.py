@@ -2,7 +2,7 @@
 
 from __future__ import annotations
 
-from collections.abc import Mapping, Sequence
+from collections.abc import Collection, Mapping, Sequence
 from dataclasses import dataclass, field
 from typing import NamedTuple, Optional
 
@@ -21,10 +21,14 @@ class Binding(NamedTuple):
 
 class Present(NamedTuple):
     """How a binding stands: its state, `gone` where it is no binding any more, None where the
-    office didn't say; and whether its indicator's newest minute is too old to believe it."""
+    office didn't say; whether its indicator's newest row is too old to believe it; whether the
+    policy's shortest window held a slice with data, and no alert, when it last held a whole slice;
+    and whether none of the windows can hold one at this minute."""
 
     state: Optional[str]
     is_stale: bool
+    has_slice: bool = True
+    is_hollow: bool = False
 
 
 @dataclass
@@ -57,13 +61,22 @@ def first_of_each(notices: Sequence[Notice]) -> dict[Binding, Notice]:
 
 
 def decide(
-    opened: Sequence[Binding], notices: Sequence[Notice], present: Mapping[Binding, Present]
+    opened: Sequence[Binding],
+    notices: Sequence[Notice],
+    present: Mapping[Binding, Present],
+    hollow: Collection[Notice] = (),
 ) -> Decisions:
-    """The decisions of a round."""
+    """The decisions of a round; `hollow` are the notices of `no_data` of a minute at which no
+    window can hold a whole slice."""
     decisions = Decisions()
     first = first_of_each(notices)
     for binding, notice in first.items():
-        if notice.state != QUIET:
+        if notice in hollow and present[binding].is_hollow:
+            # Whether data is lacking is known once a window can hold a slice again.
+            decisions.held.append(notice)
+        elif notice in hollow and present[binding].state != NO_DATA:
+            decisions.unsent.append(notice)
+        elif notice.state != QUIET:
             decisions.fire[binding] = notice
         elif binding not in opened:
             # Nothing is ended that wasn't begun here.
@@ -89,4 +102,6 @@ def _has_ended(present: Present) -> bool:
     """Whether an alert's end can be believed. Without data nothing has ended."""
     if present.state == "gone":
         return True
+    if not present.has_slice:
+        return False
     return present.state == QUIET and not present.is_stale

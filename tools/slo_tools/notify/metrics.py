@@ -20,9 +20,14 @@ class Metrics:
         self.limit = gauge("slo_office_limit", "The limit", "office", "what")
         self.age = gauge(
             "slo_office_newest_minute_age_minutes",
-            "Minutes since the newest minute with data of an indicator",
+            "Minutes since the newest minute with a row of an indicator",
             "office",
             "indicator",
+        )
+        self.ahead = gauge(
+            "slo_office_moment_ahead_minutes",
+            "How far the office's moment is ahead of this machine's clock",
+            "office",
         )
         self.answers = counter(
             "slo_office_answers", "Answers of the office by status", "office", "status"
@@ -31,6 +36,10 @@ class Metrics:
         self.held = gauge("slo_notify_held_notices", "Ends that aren't believed yet", "office")
         self.sent = counter("slo_notify_sends", "Sendings to the receiver", "outcome")
         self.taken = counter("slo_notify_taken", "Notices that were taken", "office")
+        self.faults = counter(
+            "slo_notify_faults", "Answers of the office that couldn't be read", "office"
+        )
+        self.written = gauge("slo_notify_state_written", "Whether the state's file has all")
         self.clock = gauge("slo_notify_clock_trusted", "Whether this machine's clock is trusted")
         self.round = gauge("slo_notify_round_timestamp_seconds", "When the last round ended")
 

@@ -14,7 +14,7 @@ VERSION = 1
 
 
 def office_entry(
-    name: str, path: str, watch: Watch, fault: Optional[str], state: OfficeState
+    name: str, path: str, watch: Watch, fault: Optional[str], is_up: bool, state: OfficeState
 ) -> dict[str, Any]:
     """An office with all its SLOs, as they were when it answered last."""
     return {
@@ -25,7 +25,7 @@ def office_entry(
         "origin": watch.origin,
         "path": path,
         "slos": [_slo_entry(view, state) for view in watch.views],
-        "up": fault is None,
+        "up": is_up,
         "usage": watch.usage,
     }
 

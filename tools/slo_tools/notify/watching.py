@@ -1,19 +1,25 @@
-"""What is asked of an office in a round: objects, moment, ages, states, budgets."""
+"""What is asked of an office in a round: objects, moment, rows, states, budgets."""
 
 from __future__ import annotations
 
-from collections.abc import Callable, Iterable
+import time
+from collections.abc import Callable, Collection, Iterator
 from dataclasses import dataclass, field
 from fractions import Fraction
 from typing import Any, Optional
 
-from slo_tools.answers import Budget
-from slo_tools.freshness import LONGEST, age_or_none, excluded_age, exclusions_of
+from slo_tools import questions
+from slo_tools.answers import Alerts, Budget, Budgets, Burn
+from slo_tools.freshness import age_or_none, excluded_age, exclusions_of
+from slo_tools.notify.arrivals import Arrivals
+from slo_tools.notify.catalogue import Catalogue, read_catalogue
 from slo_tools.notify.deciding import NO_DATA, QUIET, Binding, Present
-from slo_tools.objects import BUILT_IN, Document, Objective, Slo, conditions_of, object_of
+from slo_tools.notify.slices import holds_slice, last_holding, shortest_holding
+from slo_tools.objects import Objective, Slo
 from slo_tools.office import Office
 from slo_tools.origin import origin_of
-from slo_tools.refusals import NotFound, Refusal
+from slo_tools.questions import Outcome, Question
+from slo_tools.refusals import Foreign, NoAnswer, NotFound, Refusal
 
 # The Workbook's windows.
 LOOKBACKS = ("5m", "30m", "1h", "6h", "3d")
@@ -23,40 +29,21 @@ ROUNDS_BETWEEN = 5
 
 @dataclass
 class CountedOffice(Office):
-    """An office whose answers are counted by their status."""
+    """An office whose answers are counted by their status, and of which nothing is asked any more
+    once the time of its round is over."""
 
     counted: Callable[[int], None] = lambda status: None
+    most_seconds: float = 60.0
+    _end: Optional[float] = field(default=None, init=False, repr=False)
+
+    def begin(self) -> None:
+        """The time of a round begins here."""
+        self._end = time.monotonic() + self.most_seconds
 
     def answered(self, status: int) -> None:
         self.counted(status)
-
-
-@dataclass(frozen=True)
-class Policy:
-    """A policy's severity, and the minutes of its shortest window."""
-
-    severity: str
-    shortest: int
-
-
-@dataclass
-class Catalogue:
-    """The SLOs, services and policies of an office."""
-
-    names: list[tuple[str, str]] = field(default_factory=list)
-    slos: dict[str, Slo] = field(default_factory=dict)
-    services: dict[str, Document] = field(default_factory=dict)
-    policies: dict[str, Policy] = field(default_factory=dict)
-
-    def bindings(self) -> Iterable[tuple[Slo, Objective, str]]:
-        for slo in self.slos.values():
-            for objective in slo.objectives:
-                for policy in slo.policies:
-                    yield slo, objective, policy
-
-    def indicator(self, slo: str) -> str:
-        known = self.slos.get(slo)
-        return "" if known is None else known.indicator
+        if self._end is not None and time.monotonic() > self._end:
+            raise NoAnswer(f"a round's questions took more than {self.most_seconds:.0f} s")
 
 
 @dataclass(frozen=True)
@@ -104,9 +91,10 @@ class SloView:
 class Watch:
     """An office that is asked round after round."""
 
-    def __init__(self, office: Office, stale: int) -> None:
+    def __init__(self, office: CountedOffice, stale: int, arrivals: Optional[Arrivals] = None):
         self.office = office
         self.stale = stale
+        self.arrivals = arrivals or Arrivals()
         self.catalogue = Catalogue()
         self.ages: dict[str, Optional[int]] = {}
         self.at: Optional[int] = None
@@ -114,10 +102,13 @@ class Watch:
         self.entries: Optional[int] = None
         self.usage: Optional[dict[str, list[int]]] = None
         self.views: list[SloView] = []
+        self._exclusions: list[Any] = []
+        self._sought: set[str] = set()
         self._rounds = 0
 
     def begin(self) -> None:
         """Asks for what the round rests on: the objects, the moment, where the history begins."""
+        self.office.begin()
         self._objects()
         self.ask_moment()
         self._origin()
@@ -129,26 +120,11 @@ class Watch:
         if self.entries < before:
             # It is another office.
             self.origin = None
+            self._sought = set()
         names = [(each.kind, each.name) for each in told]
         if names == self.catalogue.names and self._rounds % ROUNDS_BETWEEN:
             return
-        made = Catalogue(names)
-        for kind, name in names:
-            if kind == "SLO":
-                made.slos[name] = Slo(object_of(self.office, kind, name))
-            elif kind == "Service":
-                made.services[name] = object_of(self.office, kind, name)
-            elif kind == "AlertPolicy":
-                made.policies[name] = self._policy(name)
-        for name in BUILT_IN:
-            made.policies[name] = self._policy(name)
-        self.catalogue = made
-
-    def _policy(self, name: str) -> Policy:
-        conditions = conditions_of(self.office, name)
-        severity = conditions[-1].severity if conditions else ""
-        shortest = min((each.lookback or LONGEST for each in conditions), default=LONGEST)
-        return Policy(severity, shortest)
+        self.catalogue = read_catalogue(self.office, names, self.stale)
 
     def _origin(self) -> None:
         """It stays as it is, so it is looked for once."""
@@ -172,49 +148,129 @@ class Watch:
                 self.at = refusal.members.get("at")
 
     def ask_ages(self) -> None:
-        """The age of each indicator's newest minute, by the SLOs that count it."""
-        if self.at is None:
+        """The age of each indicator's newest row, None where it never had one."""
+        if self.at is None or self.entries is None:
             return
-        found: dict[str, list[int]] = {}
-        exclusions = exclusions_of(self.office)
-        for slo in self.catalogue.slos.values():
-            guess = self.ages.get(slo.indicator) or 1
-            ages = (
-                age_or_none(self.office, slo.name, 0, self.at, guess),
-                excluded_age(exclusions, slo.name, self.at),
-            )
-            found.setdefault(slo.indicator, []).extend(age for age in ages if age is not None)
-        self.ages = {name: min(ages, default=None) for name, ages in found.items()}
-
-    def present(self, binding: Binding) -> Present:
-        """How a binding stands, and whether that can be believed."""
-        if self.at is None:
-            return Present(None, True)
+        self._exclusions = exclusions_of(self.office)
+        wanted = self.catalogue.indicators()
         try:
-            told = self.office.alerts(*binding, self.at, self.at)
-        except NotFound:
-            return Present("gone", False)
-        age = self.ages.get(self.catalogue.indicator(binding.slo))
+            self.arrivals.ask(self.office, self.entries, wanted)
+            by_rows = True
+        except (Refusal, Foreign):
+            # An office, or a proxy, that doesn't hand entries out.
+            by_rows = False
+        for indicator, slos in wanted.items():
+            if by_rows and (indicator in self.arrivals.newest or indicator in self._sought):
+                continue
+            # What came longer ago than was looked back.
+            self._sought.add(indicator)
+            self._seek(indicator, slos)
+        newest = self.arrivals.newest
+        self.ages = {name: self.at - newest[name] if name in newest else None for name in wanted}
+
+    def _seek(self, indicator: str, slos: list[Slo]) -> None:
+        """Finds the newest minute with events of an indicator, by its SLOs' burn rates."""
+        assert self.at is not None
+        guess = self.at - self.arrivals.newest.get(indicator, self.at - 1)
+        found = [age_or_none(self.office, slo.name, 0, self.at, guess) for slo in slos]
+        ages = [age for age in found if age is not None]
+        if ages:
+            self.arrivals.newest[indicator] = self.at - min(ages)
+
+    def presents(self, bindings: Collection[Binding]) -> dict[Binding, Present]:
+        """How each binding stands, and whether its end can be believed."""
+        if self.at is None:
+            return {binding: Present(None, True) for binding in bindings}
+        asked: list[Question[Any]] = []
+        for binding in bindings:
+            window, at = self._judged(binding)
+            end = at if at == self.at else at + 1
+            asked.append(questions.alerts(*binding, at, end))
+            asked.append(questions.burn(binding.slo, binding.objective, f"{window}m", at))
+        outcomes: Iterator[Outcome[Any]] = iter(self.office.asked(asked))
+        return {each: self._present(each, next(outcomes), next(outcomes)) for each in bindings}
+
+    def _judged(self, binding: Binding) -> tuple[int, int]:
+        """The shortest window of a binding's policy that can hold a whole slice, and the last
+        minute at which it held one: of an outage nothing is known at the others."""
+        at = self.at or 0
         policy = self.catalogue.policies.get(binding.policy)
-        least = self.stale if policy is None else min(self.stale, policy.shortest)
-        return Present(told.state, age is None or age > least)
+        width = self.catalogue.width(binding.slo, binding.objective)
+        windows = () if policy is None else policy.windows
+        window = shortest_holding(windows, width)
+        if window is None:
+            window = max([width, *windows])
+        return window, last_holding(at, window, width)
+
+    def _present(self, binding: Binding, told: Outcome[Alerts], burn: Outcome[Burn]) -> Present:
+        if isinstance(told.fault, NotFound):
+            return Present("gone", False)
+        alerts = told.get()
+        age = self.ages.get(self.catalogue.indicator(binding.slo))
+        is_stale = age is None or age > self.catalogue.stale.get(binding.slo, self.stale)
+        has_slice = burn.fault is None and burn.get().den > 0
+        # Minutes that people took out count for nothing, whether their data has come or not.
+        excluded = self.excluded_age(binding.slo)
+        if excluded is not None and excluded <= min(self.stale, self._judged(binding)[0]):
+            is_stale, has_slice = False, True
+        has_slice = has_slice and not alerts.intervals
+        return Present(alerts.state, is_stale, has_slice, self.is_hollow(binding, self.at or 0))
+
+    def excluded_age(self, slo: str) -> Optional[int]:
+        """The age of the newest minute that is excluded for an SLO."""
+        return excluded_age(self._exclusions, slo, self.at or 0)
+
+    def is_stale(self, indicator: str) -> bool:
+        """Whether the newest row of an indicator that has had rows is too old for one of its SLOs.
+        Minutes that people took out lack nothing."""
+        age = self.ages.get(indicator)
+        for slo in self.catalogue.indicators().get(indicator, []):
+            most, excluded = self.catalogue.stale[slo.name], self.excluded_age(slo.name)
+            is_excluded = excluded is not None and excluded <= most
+            if not is_excluded and (age is None or age > most):
+                return True
+        return False
+
+    def is_hollow(self, binding: Binding, at: int) -> bool:
+        """Whether none of a policy's windows can hold a whole slice at a minute, though one can at
+        others: that its state is `no_data` then says nothing."""
+        policy = self.catalogue.policies.get(binding.policy)
+        width = self.catalogue.width(binding.slo, binding.objective)
+        windows = () if policy is None else policy.windows
+        if shortest_holding(windows, width) is None:
+            return False
+        return not any(holds_slice(at, window, width) for window in windows)
 
     def numbers(
         self, slo: str, objective: int, at: Optional[int]
     ) -> tuple[Optional[Budget], dict[str, Optional[Fraction]]]:
         """Budget and burns of an objective at a minute, as far as the office gives them."""
-        budgets = self._budgets(slo, at)[0]
+        asked: list[Question[Any]] = [questions.budgets(slo, at), *_burns(slo, objective, at)]
+        outcomes: Iterator[Outcome[Any]] = iter(self.office.asked(asked))
+        budgets = _budgets_of(next(outcomes))[0]
         budget = budgets[objective] if objective < len(budgets) else None
-        return budget, self._burns(slo, objective, at)
+        return budget, _burns_of(outcomes)
 
     def ask_views(self) -> None:
         """The numbers of all SLOs, for the overview."""
-        self.views = [self._slo_view(slo) for slo in self.catalogue.slos.values()]
+        slos = list(self.catalogue.slos.values())
+        asked: list[Question[Any]] = []
+        for slo in slos:
+            asked.append(questions.budgets(slo.name, self.at))
+            for objective in slo.objectives:
+                asked += _burns(slo.name, objective.number, self.at)
+                if self.at is not None:
+                    asked += [
+                        questions.alerts(slo.name, objective.number, policy, self.at, self.at)
+                        for policy in slo.policies
+                    ]
+        outcomes: Iterator[Outcome[Any]] = iter(self.office.asked(asked))
+        self.views = [self._slo_view(slo, outcomes) for slo in slos]
 
-    def _slo_view(self, slo: Slo) -> SloView:
+    def _slo_view(self, slo: Slo, outcomes: Iterator[Outcome[Any]]) -> SloView:
         service = self.catalogue.services.get(slo.service)
         display = slo.service if service is None else service.display
-        budgets, fault = self._budgets(slo.name, self.at)
+        budgets, fault = _budgets_of(next(outcomes))
         age = self.ages.get(slo.indicator)
         objectives = []
         for objective in slo.objectives:
@@ -223,38 +279,43 @@ class Watch:
                 ObjectiveView(
                     objective,
                     budgets[objective.number] if known else None,
-                    self._burns(slo.name, objective.number, self.at),
+                    _burns_of(outcomes),
                     age,
-                    age is None or age > self.stale,
-                    self._alerts(slo, objective.number),
+                    age is None or age > self.catalogue.stale.get(slo.name, self.stale),
+                    self._alert_views(slo, outcomes),
                 )
             )
         return SloView(slo, display, fault, objectives)
 
-    def _budgets(self, slo: str, at: Optional[int]) -> tuple[list[Budget], Optional[str]]:
-        """The budgets of an SLO, or the word by which the office refuses them."""
-        try:
-            return self.office.budgets(slo, at).budgets, None
-        except Refusal as refusal:
-            return [], refusal.word
-
-    def _burns(self, slo: str, objective: int, at: Optional[int]) -> dict[str, Optional[Fraction]]:
-        burns: dict[str, Optional[Fraction]] = {}
-        for lookback in LOOKBACKS:
-            try:
-                burns[lookback] = self.office.burn(slo, objective, lookback, at).burn
-            except Refusal:
-                burns[lookback] = None
-        return burns
-
-    def _alerts(self, slo: Slo, objective: int) -> list[AlertView]:
+    def _alert_views(self, slo: Slo, outcomes: Iterator[Outcome[Any]]) -> list[AlertView]:
         views = []
-        for name in slo.policies:
-            state = self.present(Binding(slo.name, objective, name)).state
+        for name in slo.policies if self.at is not None else []:
+            outcome = next(outcomes)
             policy = self.catalogue.policies.get(name)
-            if state is not None and state != "gone":
-                views.append(AlertView(name, "" if policy is None else policy.severity, state))
+            if outcome.fault is None:
+                severity = "" if policy is None else policy.severity
+                views.append(AlertView(name, severity, outcome.get().state))
         return views
+
+
+def _budgets_of(outcome: Outcome[Budgets]) -> tuple[list[Budget], Optional[str]]:
+    """The budgets of an SLO, or the word by which the office refuses them."""
+    if outcome.fault is None:
+        return outcome.get().budgets, None
+    fault = outcome.fault
+    return [], fault.word if isinstance(fault, Refusal) else str(fault)
+
+
+def _burns(slo: str, objective: int, at: Optional[int]) -> list[Question[Burn]]:
+    return [questions.burn(slo, objective, lookback, at) for lookback in LOOKBACKS]
+
+
+def _burns_of(outcomes: Iterator[Outcome[Burn]]) -> dict[str, Optional[Fraction]]:
+    burns: dict[str, Optional[Fraction]] = {}
+    for lookback in LOOKBACKS:
+        outcome = next(outcomes)
+        burns[lookback] = None if outcome.fault is not None else outcome.get().burn
+    return burns
 
 
 def _usage(status: dict[str, Any]) -> dict[str, list[int]]:
