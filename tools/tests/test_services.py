@@ -27,7 +27,7 @@ COMMANDS = {
     " sudo systemctl restart prometheus-alertmanager",
     "disabled": f"systemctl is-enabled {ALL} | xargs",
     # Nothing keeps the clock of this machine, so it is compared with the receiver's alone.
-    "clock": "sudo sed -i '1i clock = \"receiver\"' /etc/slo-notify.toml",
+    "clock": "sudo sed -i 's|^clock = .*|clock = \"receiver\"|' /etc/slo-notify.toml",
     "define": f"curl -s --data-binary @{EXAMPLES}/feed/web.yaml http://127.0.0.1:8080/objects",
     "restart": "sudo systemctl restart slo-feed slo-notify; sleep 140",
     "states": STATES,

@@ -5,10 +5,9 @@ from __future__ import annotations
 from collections.abc import Iterable, Sequence
 from dataclasses import dataclass, field
 
-from slo_tools import questions
 from slo_tools.notify.slices import BUILT_IN_WINDOWS, slice_width
 from slo_tools.notify.staleness import stale_of
-from slo_tools.objects import BUILT_IN, Document, Slo, map_of, read_document
+from slo_tools.objects import BUILT_IN, Document, Slo, document, map_of
 from slo_tools.office import Office
 from slo_tools.refusals import NotFound, OfficeError
 from slo_tools.spelling import minutes_of_duration
@@ -60,14 +59,14 @@ def read_catalogue(office: Office, names: Sequence[tuple[str, str]], usual: int)
     with its fault. Raises NoAnswer."""
     made = Catalogue(list(names))
     asked = [(kind, name) for kind, name in names if kind in KINDS]
-    outcomes = office.asked([questions.object_text(kind, name) for kind, name in asked])
+    outcomes = office.asked([document(kind, name) for kind, name in asked])
     conditions: dict[str, Document] = {}
     policies: dict[str, Document] = {}
     for (kind, name), outcome in zip(asked, outcomes):
         try:
-            document = read_document(outcome.get())
+            found = outcome.get()
             if kind == "SLO":
-                made.slos[name] = _checked(Slo(document), name)
+                made.slos[name] = _checked(Slo(found))
         except NotFound:
             # It was removed since the list was made.
             continue
@@ -76,16 +75,14 @@ def read_catalogue(office: Office, names: Sequence[tuple[str, str]], usual: int)
             continue
         kept = {"Service": made.services, "AlertCondition": conditions, "AlertPolicy": policies}
         if kind in kept:
-            kept[kind][name] = document
+            kept[kind][name] = found
     _add_policies(made, policies, conditions)
     _add_stale(made, usual)
     return made
 
 
-def _checked(slo: Slo, name: str) -> Slo:
+def _checked(slo: Slo) -> Slo:
     """An SLO whose members that are looked at here have the form that the office writes."""
-    if slo.name != name:
-        raise ValueError(f"it has the name {slo.name!r}")
     for objective in slo.objectives:
         slice_width(slo, objective.number)
     if not slo.objectives or not all((slo.window, slo.service, slo.indicator)):
@@ -99,8 +96,8 @@ def _add_policies(
 ) -> None:
     for name, windows in BUILT_IN_WINDOWS.items():
         made.policies[name] = Policy(BUILT_IN[name].severity, windows)
-    for name, document in policies.items():
-        items = document.spec.get("conditions")
+    for name, policy in policies.items():
+        items = policy.spec.get("conditions")
         names = [str(map_of(each).get("conditionRef")) for each in _listed(items)]
         specs = [conditions[each].spec for each in names if each in conditions]
         lookbacks = [_lookback(spec) for spec in specs]

@@ -72,8 +72,8 @@ class OfficeRound:
         self.full: Optional[str] = None
         self.waiting = 0
         self.clock_fault: Optional[str] = None
-        self.entry: dict[str, Any] = {}
         self._lines: set[str] = set()
+        self.entry = self._entry("not asked yet", False)
         around.file.note(config.name, state)
 
     def round(self, clock_fault: Optional[str]) -> bool:
@@ -105,10 +105,12 @@ class OfficeRound:
         self._say("", self.fault)
         self._measure()
         self.around.file.note(self.config.name, self.state)
-        fault, is_up = self.fault or self.clock_fault, self.fault is None
-        self.entry = office_entry(
-            self.config.name, self.config.path, self.watch, fault, is_up, self.state
-        )
+        self.entry = self._entry(self.fault or self.clock_fault, self.fault is None)
+
+    def _entry(self, fault: Optional[str], is_up: bool) -> dict[str, Any]:
+        """What the overview tells of it."""
+        config = self.config
+        return office_entry(config.name, config.path, self.watch, fault, is_up, self.state)
 
     def _say(self, matter: str, line: Optional[str]) -> None:
         place = f"office {self.config.name}" + (f", {matter}" if matter else "")

@@ -145,7 +145,7 @@ class Rounds:
             "receiver_fault": self.receiver_fault,
             "waiting": sum(office.waiting for office in self.offices),
         }
-        entries = [office.entry for office in self.offices if office.entry]
+        entries = [office.entry for office in self.offices]
         second = int(self.clock.now())
         text = overview_text(second, self.config.every, notify, entries)
         try:
