@@ -64,6 +64,9 @@ class Mutator:
         self.one_of = 12
         # An answer that is given to each question.
         self.always: Optional[bytes] = None
+        # A path whose answer is no text that can be read, and how long each answer takes.
+        self.spoils = ""
+        self.seconds = 0.0
         mutator = self
 
         class Handler(http.server.BaseHTTPRequestHandler):
@@ -101,9 +104,12 @@ class Mutator:
         link.close()
         self.answers += 1
         status, length = answer.status, None
-        if self.always is not None:
+        time.sleep(self.seconds)
+        if self.spoils and asked.path == self.spoils:
+            content = b"a: [\n"
+        elif self.always is not None:
             status, kind, content = 200, "application/json", self.always
-        elif self.dice.randrange(self.one_of) == 0:
+        elif self.one_of and self.dice.randrange(self.one_of) == 0:
             status, kind, content, length = self.spoilt(status, kind, content)
         asked.send_response(status)
         asked.send_header("Content-Type", kind)

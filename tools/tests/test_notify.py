@@ -9,6 +9,7 @@ import time
 import unittest
 import urllib.request
 from collections.abc import Callable, Sequence
+from fractions import Fraction
 from pathlib import Path
 from typing import Optional
 
@@ -49,12 +50,22 @@ class Webhooks(Desk):
         self.assertRegex(told["annotations"]["burn_1h"], r"^\d+/\d+$")
         self.assertRegex(told["annotations"]["remaining"], r"^-?\d+/\d+$")
         self.assertEqual(told["generatorURL"], "http://desk/#/shop/answers")
+        clock.go_on()
+        self.feed(office, [clock.minute() - 1], 0)
+        rounds.round()
+        # What goes on is told by the numbers of its minute.
+        left = [
+            Fraction(each.annotations["remaining"])
+            for each in rounds.offices[0].state.opened.values()
+        ]
+        self.assertEqual(left, [1 - 100 * Fraction(7, 97)])
+        self.assertGreater(Fraction(told["annotations"]["remaining"]), left[0])
         for _ in range(8):
             clock.go_on()
             self.feed(office, [clock.minute() - 1], 1000)
             rounds.round()
-        begun = clock.minute() - 14
-        self.feed(office, range(begun - 1, begun + 7), 1000, 2)
+        begun = clock.minute() - 15
+        self.feed(office, range(begun - 1, begun + 8), 1000, 2)
         clock.go_on()
         rounds.round()
         self.assertEqual(hook.told(), [("workbook-page", "firing"), ("workbook-page", "resolved")])
@@ -418,6 +429,15 @@ class Clocks(unittest.TestCase):
 
 
 class Configs(unittest.TestCase):
+    def test_what_is_left_out_fits_the_feed(self) -> None:
+        with tempfile.TemporaryDirectory() as folder:
+            path = Path(folder) / "c.toml"
+            path.write_text('state = "s"\n[[office]]\nname = "a"\naddress = "http://x"\n')
+            config = read_config(path)
+        # slo-feed asks between these seconds of a minute, and then sends.
+        self.assertTrue(15 + 10 < config.second < 60 - config.timeout)
+        self.assertFalse(config.watchdog)
+
     def test_other_forms_are_told(self) -> None:
         office = '[[office]]\nname = "a"\naddress = "http://x"\n'
         with tempfile.TemporaryDirectory() as folder:

@@ -119,6 +119,31 @@ class Answers(Several):
         self.assertEqual(count("slo_notify_faults_total", {"office": "1"}), 1)
         self.assertTrue(rounds.round(), self.said.getvalue())
 
+    def test_an_object_that_cannot_be_read_is_a_fault_of_that_one(self) -> None:
+        office = self.burning_office("odd")
+        office.client().define(DOCUMENTS.replace("name: answers", "name: other").encode())
+        mutator = Mutator(office.port, SEED)
+        self.addCleanup(mutator.close)
+        mutator.one_of, mutator.spoils = 0, "/objects/SLO/other"
+        self.assertTrue(self.several(mutator.address).round(), self.said.getvalue())
+        told = {(each["labels"]["office"], each["labels"]["slo"]) for each in self.hook.alerts}
+        self.assertEqual(told, {("1", "answers"), ("1", "other"), ("right", "answers")})
+        self.assertIn("office 1, SLO other: can't be read", self.said.getvalue())
+        self.assertEqual(
+            [each["name"] for each in self.overview()["offices"][0]["slos"]], ["answers"]
+        )
+
+    def test_an_office_that_is_slow_at_each_answer_ends_with_its_time(self) -> None:
+        mutator = Mutator(self.burning_office("slow").port, SEED)
+        self.addCleanup(mutator.close)
+        mutator.one_of, mutator.seconds = 0, 0.4
+        rounds = self.several(mutator.address, more="timeout = 2\nevery = 2")
+        begin = time.monotonic()
+        self.assertFalse(rounds.round())
+        self.assertLess(time.monotonic() - begin, 8)
+        self.assertIn("a round's questions took more than 2 s", self.said.getvalue())
+        self.assertEqual(self.of_the_right_one(), [("SloBurn", "firing")])
+
     def test_offices_that_hang_hold_nobody(self) -> None:
         dribblers = [Dribbler() for _ in range(6)]
         for each in dribblers:

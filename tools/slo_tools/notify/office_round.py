@@ -119,6 +119,9 @@ class OfficeRound:
     def _ask_and_tell(self, clock_fault: Optional[str]) -> None:
         watch, state = self.watch, self.state
         watch.begin()
+        if watch.is_another:
+            # What this one says of them is news.
+            state.opened = {b: replace(alert, state="") for b, alert in state.opened.items()}
         self._say_faults()
         self.clock_fault = None if clock_fault else office_fault(watch.at, self.around.now())
         self._say("clock", self.clock_fault)
@@ -295,7 +298,7 @@ class OfficeRound:
     def _own_alerts(self) -> dict[str, OpenAlert]:
         """What is wrong with the office itself, each as an alert of its own."""
         state, watch = self.state, self.watch
-        stale = {name for name in watch.ages if name in state.seen and watch.is_stale(name)}
+        stale = watch.stale() & state.seen
         state.stops = next_stops(state.stops, stale, max(state.newest.values(), default=0))
         found = own_alerts.stale_faults(state.stops, watch.ages)
         found.update(own_alerts.full_faults(self.full, watch.usage))

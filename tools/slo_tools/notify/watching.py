@@ -91,9 +91,9 @@ class SloView:
 class Watch:
     """An office that is asked round after round."""
 
-    def __init__(self, office: CountedOffice, stale: int, arrivals: Optional[Arrivals] = None):
+    def __init__(self, office: CountedOffice, usual: int, arrivals: Optional[Arrivals] = None):
         self.office = office
-        self.stale = stale
+        self.usual = usual
         self.arrivals = arrivals or Arrivals()
         self.catalogue = Catalogue()
         self.ages: dict[str, Optional[int]] = {}
@@ -102,6 +102,8 @@ class Watch:
         self.entries: Optional[int] = None
         self.usage: Optional[dict[str, list[int]]] = None
         self.views: list[SloView] = []
+        # Whether another office has taken the place of the one that was asked before.
+        self.is_another = False
         self._exclusions: list[Any] = []
         self._sought: set[str] = set()
         self._rounds = 0
@@ -115,16 +117,16 @@ class Watch:
         self._rounds += 1
 
     def _objects(self) -> None:
-        before = self.entries or 0
+        before = self.entries or self.arrivals.position or 0
         self.entries, told = self.office.objects()
-        if self.entries < before:
-            # It is another office.
+        self.is_another = self.entries < before
+        if self.is_another:
             self.origin = None
             self._sought = set()
         names = [(each.kind, each.name) for each in told]
         if names == self.catalogue.names and self._rounds % ROUNDS_BETWEEN:
             return
-        self.catalogue = read_catalogue(self.office, names, self.stale)
+        self.catalogue = read_catalogue(self.office, names, self.usual)
 
     def _origin(self) -> None:
         """It stays as it is, so it is looked for once."""
@@ -207,11 +209,11 @@ class Watch:
             return Present("gone", False)
         alerts = told.get()
         age = self.ages.get(self.catalogue.indicator(binding.slo))
-        is_stale = age is None or age > self.catalogue.stale.get(binding.slo, self.stale)
+        is_stale = age is None or age > self.catalogue.stale.get(binding.slo, self.usual)
         has_slice = burn.fault is None and burn.get().den > 0
         # Minutes that people took out count for nothing, whether their data has come or not.
         excluded = self.excluded_age(binding.slo)
-        if excluded is not None and excluded <= min(self.stale, self._judged(binding)[0]):
+        if excluded is not None and excluded <= min(self.usual, self._judged(binding)[0]):
             is_stale, has_slice = False, True
         has_slice = has_slice and not alerts.intervals
         return Present(alerts.state, is_stale, has_slice, self.is_hollow(binding, self.at or 0))
@@ -220,16 +222,17 @@ class Watch:
         """The age of the newest minute that is excluded for an SLO."""
         return excluded_age(self._exclusions, slo, self.at or 0)
 
-    def is_stale(self, indicator: str) -> bool:
-        """Whether the newest row of an indicator that has had rows is too old for one of its SLOs.
-        Minutes that people took out lack nothing."""
-        age = self.ages.get(indicator)
-        for slo in self.catalogue.indicators().get(indicator, []):
+    def stale(self) -> set[str]:
+        """The indicators whose newest row is too old for one of the SLOs that count them. Minutes
+        that people took out lack nothing."""
+        found = set()
+        for slo in self.catalogue.slos.values():
             most, excluded = self.catalogue.stale[slo.name], self.excluded_age(slo.name)
+            age = self.ages.get(slo.indicator)
             is_excluded = excluded is not None and excluded <= most
             if not is_excluded and (age is None or age > most):
-                return True
-        return False
+                found.add(slo.indicator)
+        return found
 
     def is_hollow(self, binding: Binding, at: int) -> bool:
         """Whether none of a policy's windows can hold a whole slice at a minute, though one can at
@@ -281,7 +284,7 @@ class Watch:
                     budgets[objective.number] if known else None,
                     _burns_of(outcomes),
                     age,
-                    age is None or age > self.catalogue.stale.get(slo.name, self.stale),
+                    age is None or age > self.catalogue.stale.get(slo.name, self.usual),
                     self._alert_views(slo, outcomes),
                 )
             )
