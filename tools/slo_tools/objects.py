@@ -32,8 +32,15 @@ class Document:
         return str(map_of(self.members.get("metadata")).get("displayName") or self.name)
 
     def annotation(self, key: str) -> Optional[str]:
-        value = map_of(map_of(self.members.get("metadata")).get("annotations")).get(key)
-        return None if value is None else str(value)
+        """The text of an annotation, None where there is none. Raises Foreign for what is no text."""
+        metadata = map_of(self.members.get("metadata"))
+        annotations = metadata.get("annotations")
+        if annotations is not None and not isinstance(annotations, dict):
+            raise Foreign(200, f"the annotations of {self.kind} {self.name} are no map")
+        value = map_of(annotations).get(key)
+        if value is not None and not isinstance(value, str):
+            raise Foreign(200, f"the annotation {key} of {self.kind} {self.name} is no text")
+        return value
 
 
 @dataclass(frozen=True)
@@ -69,15 +76,24 @@ class Slo:
 
     @cached_property
     def objectives(self) -> list[Objective]:
-        return [_objective(n, map_of(o)) for n, o in enumerate(self.document.spec["objectives"])]
+        """Its objectives. Raises Foreign where it has none."""
+        found = self.document.spec.get("objectives")
+        if not isinstance(found, list) or not found:
+            raise Foreign(200, f"SLO {self.name} has no objectives")
+        return [_objective(number, members) for number, members in enumerate(found)]
 
     @property
     def policies(self) -> list[str]:
-        return [_policy_name(item) for item in self.document.spec.get("alertPolicies") or []]
+        """The names of its policies. Raises Foreign where they have another form."""
+        return _references(self.document, "alertPolicies", "alertPolicyRef")
 
     @property
     def window(self) -> dict[str, Any]:
-        return map_of(self.document.spec["timeWindow"][0])
+        """Its window. Raises Foreign where it has none."""
+        found = self.document.spec.get("timeWindow")
+        if not isinstance(found, list) or not found or not isinstance(found[0], dict):
+            raise Foreign(200, f"SLO {self.name} has no window")
+        return found[0]
 
     @property
     def zone(self) -> str:
@@ -150,27 +166,45 @@ def slo_of(office: Office, name: str) -> Slo:
 
 
 def conditions_of(office: Office, policy: str) -> list[Condition]:
-    """The conditions of a policy; none for one that no longer stands."""
+    """A policy's conditions; none where it or one of them isn't there (any more)."""
     if policy in BUILT_IN:
         return [BUILT_IN[policy]]
     try:
-        items = object_of(office, "AlertPolicy", policy).spec.get("conditions") or []
-        names = [str(map_of(item)["conditionRef"]) for item in items]
-        return [_condition(object_of(office, "AlertCondition", name).spec) for name in names]
+        names = condition_names(object_of(office, "AlertPolicy", policy))
+        return [condition_of(object_of(office, "AlertCondition", name)) for name in names]
     except NotFound:
         return []
 
 
-def _condition(spec: dict[str, Any]) -> Condition:
-    lookback = str(map_of(spec.get("condition")).get("lookbackWindow", ""))
-    return Condition(str(spec.get("severity", "")), minutes_of_duration(lookback))
+def condition_names(policy: Document) -> list[str]:
+    """The names of a policy's conditions. Raises Foreign where they have another form."""
+    return _references(policy, "conditions", "conditionRef")
 
 
-def _objective(number: int, members: dict[str, Any]) -> Objective:
+def condition_of(document: Document) -> Condition:
+    """What is asked of a condition. Raises Foreign where it has no severity."""
+    severity = document.spec.get("severity")
+    if not isinstance(severity, str) or not severity:
+        raise Foreign(200, f"the condition {document.name} has no severity")
+    lookback = str(map_of(document.spec.get("condition")).get("lookbackWindow", ""))
+    return Condition(severity, minutes_of_duration(lookback))
+
+
+def _objective(number: int, members: Any) -> Objective:
+    if not isinstance(members, dict):
+        raise Foreign(200, f"objective {number} is no map")
     target = members.get("target")
     text = f"{members.get('targetPercent')}%" if target is None else str(target)
     return Objective(number, str(members.get("displayName") or number), text)
 
 
-def _policy_name(item: Any) -> str:
-    return str(item["alertPolicyRef"]) if isinstance(item, dict) else str(item)
+def _references(document: Document, field: str, key: str) -> list[str]:
+    """The names that a list of an object's `spec` refers to."""
+    found = document.spec.get(field)
+    if found is None:
+        return []
+    items = found if isinstance(found, list) else [None]
+    names = [item if isinstance(item, str) else map_of(item).get(key) for item in items]
+    if not all(isinstance(name, str) and name for name in names):
+        raise Foreign(200, f"`{field}` of {document.kind} {document.name} has another form")
+    return [str(name) for name in names]

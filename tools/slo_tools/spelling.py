@@ -20,6 +20,26 @@ def percent(part: Fraction) -> str:
     return f"{sign}{abs(hundredths) // 100}.{abs(hundredths) % 100:02}%"
 
 
+def times(value: Fraction) -> str:
+    """A number for people, rounded down: with two decimals below 2, with one below 100."""
+    digits = 2 if value < 2 else 1 if value < 100 else 0
+    scaled = value.numerator * 10**digits // value.denominator
+    text = f"{scaled // 10**digits}.{scaled % 10**digits:0{digits}}" if digits else str(scaled)
+    return text.rstrip("0").rstrip(".") if digits else text
+
+
+def budget_text(remaining: Fraction) -> str:
+    """What is left of a budget, or how far it is spent."""
+    if remaining >= Fraction(1, 10_000):
+        return f"{percent(remaining)} of the budget is left"
+    if remaining > 0:
+        return "less than 0.01% of the budget is left"
+    spent = 1 - remaining
+    if spent < Fraction(101, 100):
+        return "the budget is spent"
+    return f"the budget is spent {times(spent)} times over"
+
+
 def spelled_fraction(value: Optional[Fraction]) -> Optional[str]:
     """A fraction as the office writes it, `13/25`; None stays None."""
     return None if value is None else f"{value.numerator}/{value.denominator}"

@@ -86,6 +86,30 @@ def chunked(content: bytes, size: int, kind: str = "application/json") -> bytes:
     return head.encode() + body
 
 
+class Replaying:
+    """A server that gives each path's answer by a table, as often as it is asked; others are 404.
+    Behind the answer of the path `closes` it closes the link."""
+
+    def __init__(self) -> None:
+        self.answers: dict[str, bytes] = {}
+        self.closes = ""
+        self._server = Hostile(self._answer)
+        self.address = self._server.address
+        self.close = self._server.close
+
+    def _answer(self, link: socket.socket, data: bytes) -> None:
+        link.settimeout(5)
+        unknown = spelled(b'{"error":"not_found"}', status="404 Not Found")
+        while data:
+            *heads, data = data.split(b"\r\n\r\n")
+            for path in [head.split(b" ")[1].decode() for head in heads]:
+                link.sendall(self.answers.get(path, unknown))
+                if path == self.closes:
+                    return
+            more = link.recv(65_536)
+            data = more and data + more
+
+
 class Cutting:
     """A proxy in front of a server at a port of this machine. `cut` says how many bytes of answers
     the next links may bring; an empty list lets all through."""

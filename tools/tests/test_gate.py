@@ -13,7 +13,7 @@ from support import SHOP, OfficeServer, free_port, run_tool, running_office
 
 from slo_tools.freshness import excluded_age
 from slo_tools.gate.judging import BadFreeze, Freeze, Verdict, read_freeze, worst
-from slo_tools.spelling import percent
+from slo_tools.spelling import budget_text, percent
 
 SLO = """---
 apiVersion: openslo/v1
@@ -78,9 +78,9 @@ class Gate(unittest.TestCase):
     def test_a_budget_that_is_used_up_holds(self) -> None:
         office = self.office(slo("a", "workbook-ticket"))
         office.client().ask("POST", ["samples"], body=self.rows(1, 120, 990))
-        status, told = self.gate(office, "a")
-        self.assertEqual(status, 1)
-        self.assertIn("the budget is used up", told)
+        for words in (["a"], ["--remaining", "10%", "a"]):
+            status, told = self.gate(office, *words)
+            self.assertEqual((status, told.count("the budget is spent\n")), (1, 1), told)
 
     def test_a_page_that_burns_holds_and_a_ticket_does_not(self) -> None:
         office = self.office(slo("page"), slo("ticket", "workbook-ticket"))
@@ -139,6 +139,7 @@ class Gate(unittest.TestCase):
             (["--service", "nobody"], "the service nobody has no SLO"),
             ([], "name an SLO"),
             (["a", "--remaining", "much"], "is no part"),
+            (["a", "--remaining=-1"], "-1 is less than nothing"),
             (["a b"], "can't stand in a request"),
         )
         for words, why in cases:
@@ -233,6 +234,20 @@ class Judging(unittest.TestCase):
         for text in ("", "soon", "2020-01-02/2020-01-01", "2020-01-01/", "2020-13-01/2021-01-01"):
             with self.subTest(text=text), self.assertRaises(BadFreeze):
                 read_freeze(text)
+
+    def test_budgets_in_words(self) -> None:
+        for remaining, text in (
+            (Fraction(1), "100.00% of the budget is left"),
+            (Fraction(39, 100), "39.00% of the budget is left"),
+            (Fraction(1, 10**6), "less than 0.01% of the budget is left"),
+            (Fraction(0), "the budget is spent"),
+            (Fraction(-1, 1000), "the budget is spent"),
+            (Fraction(-1, 5), "the budget is spent 1.2 times over"),
+            (Fraction(-46, 10), "the budget is spent 5.6 times over"),
+            (Fraction(-499), "the budget is spent 500 times over"),
+            (Fraction(-1999, 2), "the budget is spent 1000 times over"),
+        ):
+            self.assertEqual(budget_text(remaining), text)
 
     def test_percents_are_rounded_down(self) -> None:
         for part, text in (

@@ -1,12 +1,14 @@
-"""What the gate asks of an office."""
+"""What the gate asks of an office: a few rounds of questions, each on one link."""
 
 from __future__ import annotations
 
-from collections.abc import Mapping
-from typing import Any, Optional
+from collections.abc import Iterable, Sequence
+from dataclasses import dataclass, field
+from typing import Optional
 
-from slo_tools.answers import Budget
-from slo_tools.freshness import excluded_age, exclusions_of, has_events
+from slo_tools import questions
+from slo_tools.answers import Budgets
+from slo_tools.freshness import excluded_age, exclusions_of
 from slo_tools.gate.judging import (
     FREEZE,
     BadFreeze,
@@ -16,11 +18,34 @@ from slo_tools.gate.judging import (
     SloFacts,
     read_freeze,
 )
-from slo_tools.objects import Document, Objective, Slo, conditions_of, object_of, slo_of
+from slo_tools.objects import (
+    BUILT_IN,
+    Document,
+    Objective,
+    Slo,
+    condition_names,
+    condition_of,
+    document,
+)
 from slo_tools.office import Office
-from slo_tools.refusals import NotFound
+from slo_tools.questions import Outcome
+from slo_tools.refusals import Foreign, NotFound, OfficeError, Refusal
 
 PAGE = "page"
+_Binding = tuple[str, int, str]
+
+
+@dataclass
+class _Asked:
+    """What is known of an SLO so far; `faults` says what keeps it from being judged."""
+
+    name: str
+    slo: Optional[Slo] = None
+    objectives: list[Objective] = field(default_factory=list)
+    budgets: Optional[Budgets] = None
+    pages: list[str] = field(default_factory=list)
+    freezes: list[Freeze] = field(default_factory=list)
+    faults: list[str] = field(default_factory=list)
 
 
 class Asker:
@@ -29,78 +54,181 @@ class Asker:
     def __init__(self, office: Office, stale: int) -> None:
         self.office = office
         self.stale = stale
-        self._exclusions: Optional[list[Mapping[str, Any]]] = None
-        self._severities: dict[str, list[str]] = {}
-        self._services: dict[str, Document] = {}
+        self._documents: dict[tuple[str, str], Outcome[Document]] = {}
+        self._fresh: dict[tuple[str, int], bool] = {}
+        self._states: dict[_Binding, str] = {}
 
     def slos_of_service(self, service: str) -> list[str]:
         """The names of a service's SLOs."""
-        names = [o.name for o in self.office.objects()[1] if o.kind == "SLO"]
-        return [name for name in names if slo_of(self.office, name).service == service]
+        names = [each.name for each in self.office.objects()[1] if each.kind == "SLO"]
+        self._ask(("SLO", name) for name in names)
+        return [name for name in names if Slo(self._document("SLO", name)).service == service]
 
-    def facts(self, name: str) -> SloFacts:
-        """All that the verdict on an SLO rests on."""
-        try:
-            slo = slo_of(self.office, name)
-        except NotFound:
-            return SloFacts(name, "", 0, [], faults=["there is no such SLO"])
-        freezes, faults = self._freezes(slo)
-        try:
-            told = self.office.budgets(name)
-        except NotFound:
-            return SloFacts(name, slo.service, 0, [], faults=["no window has begun"])
-        if len(told.budgets) != len(slo.objectives):
-            faults.append("its objectives changed while they were asked for")
-            return SloFacts(name, slo.service, told.at, [], freezes, faults)
-        objectives = [
-            self._objective(slo, objective, budget, told.at)
-            for objective, budget in zip(slo.objectives, told.budgets)
-        ]
-        return SloFacts(name, slo.service, told.at, objectives, freezes, faults)
+    def facts(self, names: Sequence[str]) -> list[SloFacts]:
+        """All that the verdict on some SLOs rests on."""
+        asked = [_Asked(name) for name in names]
+        self._ask(("SLO", name) for name in names)
+        for each in asked:
+            self._read_slo(each)
+        self._ask_behind([each for each in asked if each.slo is not None])
+        judged = [each for each in asked if each.budgets is not None]
+        self._ask_states(judged)
+        return [self._facts(each) for each in asked]
 
-    def _objective(self, slo: Slo, objective: Objective, budget: Budget, at: int) -> ObjectiveFacts:
-        pages = [policy for policy in slo.policies if PAGE in self._severities_of(policy)]
-        return ObjectiveFacts(
-            objective.number,
-            objective.display,
-            objective.target,
-            budget.begin,
-            budget.den,
-            budget.remaining,
-            self._is_fresh(slo.name, objective.number, at),
-            [self._page(slo.name, objective.number, policy, at) for policy in pages],
+    def _ask(self, wanted: Iterable[tuple[str, str]]) -> None:
+        """Asks for the objects that weren't asked for yet."""
+        new = [each for each in dict.fromkeys(wanted) if each not in self._documents]
+        outcomes = self.office.asked([document(*each) for each in new])
+        self._documents.update(zip(new, outcomes))
+
+    def _document(self, kind: str, name: str) -> Document:
+        return self._documents[kind, name].get()
+
+    def _read_slo(self, asked: _Asked) -> None:
+        try:
+            slo = Slo(self._document("SLO", asked.name))
+            asked.objectives, asked.pages = slo.objectives, slo.policies
+            if not slo.service:
+                raise Foreign(200, "it has no service")
+            asked.slo = slo
+        except NotFound:
+            asked.faults.append("there is no such SLO")
+        except OfficeError as fault:
+            asked.faults.append(f"the SLO can't be read: {fault}")
+
+    def _ask_behind(self, asked: list[_Asked]) -> None:
+        """Services, policies, their conditions, and budgets."""
+        slos = [each.slo for each in asked if each.slo is not None]
+        policies = {name for slo in slos for name in slo.policies if name not in BUILT_IN}
+        self._ask(
+            [
+                *(("Service", slo.service) for slo in slos),
+                *(("AlertPolicy", name) for name in sorted(policies)),
+            ]
         )
+        self._ask(("AlertCondition", name) for policy in policies for name in self._names(policy))
+        budgets = self.office.asked([questions.budgets(each.name) for each in asked])
+        for each, outcome in zip(asked, budgets):
+            self._read_freezes(each)
+            self._read_pages(each)
+            self._read_budgets(each, outcome)
 
-    def _is_fresh(self, slo: str, objective: int, at: int) -> bool:
-        if has_events(self.office, slo, objective, self.stale, at):
-            return True
-        if self._exclusions is None:
-            self._exclusions = exclusions_of(self.office)
-        age = excluded_age(self._exclusions, slo, at)
-        return age is not None and age <= self.stale
+    def _names(self, policy: str) -> list[str]:
+        try:
+            return condition_names(self._document("AlertPolicy", policy))
+        except OfficeError:
+            return []
 
-    def _page(self, slo: str, objective: int, policy: str, at: int) -> Page:
-        return Page(policy, self.office.alerts(slo, objective, policy, at, at).state)
+    def _read_freezes(self, asked: _Asked) -> None:
+        assert asked.slo is not None
+        documents = [asked.slo.document]
+        try:
+            documents.append(self._document("Service", asked.slo.service))
+        except OfficeError as fault:
+            asked.faults.append(f"its service can't be read: {_why(fault)}")
+        for each in documents:
+            try:
+                text = each.annotation(FREEZE)
+                if text is not None:
+                    asked.freezes.append(read_freeze(text))
+            except (BadFreeze, Foreign) as fault:
+                asked.faults.append(f"{each.kind} {each.name}: {fault}")
+
+    def _read_pages(self, asked: _Asked) -> None:
+        """Leaves the policies that page. One that can't be judged keeps the SLO from being let
+        through: it may page."""
+        pages = []
+        for policy in asked.pages:
+            try:
+                if PAGE in self._severities_of(policy):
+                    pages.append(policy)
+            except OfficeError as fault:
+                asked.faults.append(f"the policy {policy}: {_why(fault)}")
+        asked.pages = pages
 
     def _severities_of(self, policy: str) -> list[str]:
-        if policy not in self._severities:
-            told = conditions_of(self.office, policy)
-            self._severities[policy] = [condition.severity.lower() for condition in told]
-        return self._severities[policy]
-
-    def _freezes(self, slo: Slo) -> tuple[list[Freeze], list[str]]:
-        freezes, faults = [], []
-        for document in (slo.document, self._service(slo.service)):
-            text = document.annotation(FREEZE)
-            if text is None:
-                continue
+        if policy in BUILT_IN:
+            return [BUILT_IN[policy].severity]
+        names = condition_names(self._document("AlertPolicy", policy))
+        if not names:
+            raise Foreign(200, "it has no condition")
+        found = []
+        for name in names:
             try:
-                freezes.append(read_freeze(text))
-            except BadFreeze as fault:
-                faults.append(f"{document.kind} {document.name}: {fault}")
-        return freezes, faults
+                condition = condition_of(self._document("AlertCondition", name))
+            except NotFound:
+                raise Foreign(200, f"its condition {name} isn't there") from None
+            found.append(condition.severity.lower())
+        return found
 
-    def _service(self, name: str) -> Document:
-        if name not in self._services:
-            self._services[name] = object_of(self.office, "Service", name)
-        return self._services[name]
+    def _read_budgets(self, asked: _Asked, outcome: Outcome[Budgets]) -> None:
+        try:
+            found = outcome.get()
+        except NotFound:
+            asked.faults.append("no window has begun")
+            return
+        except (Refusal, Foreign) as fault:
+            asked.faults.append(f"its budgets can't be told: {fault}")
+            return
+        numbers = [budget.objective for budget in found.budgets]
+        if numbers != [objective.number for objective in asked.objectives]:
+            asked.faults.append("its objectives changed while they were asked for")
+        else:
+            asked.budgets = found
+
+    def _ask_states(self, asked: list[_Asked]) -> None:
+        """The states of the alerts that page, and whether data is fresh."""
+        lookback = f"{self.stale}m"
+        at = {each.name: each.budgets.at for each in asked if each.budgets is not None}
+        objectives = [(each.name, found.number) for each in asked for found in each.objectives]
+        burns = self.office.asked(
+            [questions.burn(slo, number, lookback, at[slo]) for slo, number in objectives]
+        )
+        for key, burn in zip(objectives, burns):
+            told = burn.get()
+            if told.at != at[key[0]]:
+                raise Foreign(200, "a burn rate of another minute came")
+            self._fresh[key] = told.den > 0
+        if not all(self._fresh.values()):
+            exclusions = exclusions_of(self.office)
+            for key in [key for key, is_fresh in self._fresh.items() if not is_fresh]:
+                age = excluded_age(exclusions, key[0], at[key[0]])
+                self._fresh[key] = age is not None and age <= self.stale
+        bindings = [
+            (each.name, objective.number, policy)
+            for each in asked
+            for objective in each.objectives
+            for policy in each.pages
+        ]
+        states = self.office.asked(
+            [questions.alerts(*binding, at[binding[0]], at[binding[0]]) for binding in bindings]
+        )
+        self._states = {key: outcome.get().state for key, outcome in zip(bindings, states)}
+
+    def _facts(self, asked: _Asked) -> SloFacts:
+        service = "" if asked.slo is None else asked.slo.service
+        if asked.budgets is None:
+            return SloFacts(asked.name, service, 0, [], asked.freezes, asked.faults)
+        objectives = [
+            ObjectiveFacts(
+                objective.number,
+                objective.display,
+                objective.target,
+                budget.begin,
+                budget.den,
+                budget.remaining,
+                self._fresh[asked.name, objective.number],
+                [
+                    Page(name, self._states[asked.name, objective.number, name])
+                    for name in asked.pages
+                ],
+            )
+            for objective, budget in zip(asked.objectives, asked.budgets.budgets)
+        ]
+        return SloFacts(
+            asked.name, service, asked.budgets.at, objectives, asked.freezes, asked.faults
+        )
+
+
+def _why(fault: OfficeError) -> str:
+    return "it isn't there" if isinstance(fault, NotFound) else str(fault)

@@ -5,6 +5,7 @@ from __future__ import annotations
 import argparse
 import json
 import sys
+from collections.abc import Sequence
 from fractions import Fraction
 from typing import Any, Optional
 
@@ -16,6 +17,10 @@ from slo_tools.office_options import add_office_options, office_of
 from slo_tools.refusals import OfficeError
 from slo_tools.spelling import percent, spelled_fraction
 
+# What passes is tried again; a pipeline waits some seconds for it, not for minutes.
+PAUSES = Pauses(tries=4, first=0.5, longest=4.0)
+SECONDS = 20.0
+
 WORDS = {
     Verdict.RELEASE: "release",
     Verdict.HOLD: "hold",
@@ -23,12 +28,31 @@ WORDS = {
 }
 
 
-def parser() -> argparse.ArgumentParser:
+class _HelpAlone(argparse.Action):
+    """`--help` ends with 0 where it is the only word: in `slo-gate $WORDS && deploy` a word among
+    others never lets a release through."""
+
+    words = 0
+
+    def __init__(self, option_strings: list[str], dest: str, **others: Any) -> None:
+        super().__init__(option_strings, dest, nargs=0, help=others.get("help"))
+
+    def __call__(self, parser: argparse.ArgumentParser, *others: Any) -> None:
+        if self.words != 1:
+            parser.error("--help stands alone")
+        parser.print_help()
+        parser.exit()
+
+
+def parser(words: Sequence[str] = ()) -> argparse.ArgumentParser:
     made = argparse.ArgumentParser(
         prog="slo-gate",
+        add_help=False,
         description="Ask an office whether a release may go ahead.",
         epilog="Exit status: 0 release, 1 hold, 2 it couldn't be told.",
     )
+    helping = made.add_argument("-h", "--help", action=_HelpAlone, help="print this, and end")
+    helping.words = len(words)  # type: ignore[attr-defined]
     made.add_argument("slo", nargs="*", metavar="SLO", help="the SLOs that are asked about")
     made.add_argument("--service", metavar="NAME", help="all SLOs of this service")
     made.add_argument(
@@ -62,6 +86,8 @@ def _part(text: str) -> Fraction:
         part = Fraction(text[:-1]) / 100 if text.endswith("%") else Fraction(text)
     except (ValueError, ZeroDivisionError):
         raise argparse.ArgumentTypeError(f"{text} is no part as 0.1 or 10%") from None
+    if part < 0:
+        raise argparse.ArgumentTypeError(f"{text} is less than nothing")
     if part > 1:
         raise argparse.ArgumentTypeError(f"{text} is more than a whole budget")
     return part
@@ -75,7 +101,8 @@ def _minutes(text: str) -> int:
 
 def main(words: Optional[list[str]] = None, clock: Clock = SystemClock()) -> int:
     """Judges, prints, and returns the exit status: 0 only where all was asked and let through."""
-    options = parser().parse_args(words)
+    words = sys.argv[1:] if words is None else words
+    options = parser(words).parse_args(words)
     if not options.slo and options.service is None:
         parser().error("name an SLO, or a service by --service")
     try:
@@ -91,7 +118,7 @@ def main(words: Optional[list[str]] = None, clock: Clock = SystemClock()) -> int
 
 
 def _run(options: argparse.Namespace, clock: Clock) -> Verdict:
-    office = office_of(options, Pauses(tries=4, first=0.5, longest=4.0), timeout=20.0)
+    office = office_of(options, PAUSES, timeout=SECONDS)
     asker = Asker(office, options.stale)
     with office.kept_link():
         names = list(dict.fromkeys(options.slo))
@@ -100,7 +127,7 @@ def _run(options: argparse.Namespace, clock: Clock) -> Verdict:
             if not of_service:
                 raise ValueError(f"the service {options.service} has no SLO")
             names = list(dict.fromkeys([*names, *of_service]))
-        facts = [asker.facts(name) for name in names]
+        facts = asker.facts(names)
     terms = Terms(options.remaining, options.stale)
     judged = [line for slo in facts for line in judge_slo(slo, terms)]
     judged += _skewed(facts, options.skew, minute_of(clock.now()))

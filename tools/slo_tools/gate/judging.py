@@ -9,7 +9,7 @@ from fractions import Fraction
 from typing import Optional
 
 from slo_tools.clock import date_of, minute_of_date
-from slo_tools.spelling import percent
+from slo_tools.spelling import budget_text, percent
 
 FREEZE = "slo-office/freeze"
 
@@ -153,11 +153,11 @@ def judge_objective(facts: ObjectiveFacts, terms: Terms) -> list[Reason]:
     if facts.remaining is None or facts.counted == 0:
         reasons.append(Reason(Verdict.UNKNOWN, "no data in its window"))
     else:
-        if facts.remaining < terms.remaining:
+        if facts.remaining <= 0:
+            reasons.append(Reason(Verdict.HOLD, budget_text(facts.remaining)))
+        elif facts.remaining < terms.remaining:
             asked = percent(terms.remaining)
             reasons.append(Reason(Verdict.HOLD, f"less than {asked} of the budget is left"))
-        elif facts.remaining <= 0:
-            reasons.append(Reason(Verdict.HOLD, "the budget is used up"))
         if not facts.is_fresh:
             reasons.append(Reason(Verdict.UNKNOWN, f"no data in the last {terms.stale} minutes"))
     return reasons + [reason for page in facts.pages for reason in _page_reasons(page)]
