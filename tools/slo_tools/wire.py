@@ -137,6 +137,7 @@ class Peer:
         """A request as it goes over the wire; `is_last` asks for the link's end behind it."""
         told = {
             "Host": self.address.authority,
+            "User-Agent": "slo-office-tools",
             "Accept-Encoding": "identity",
             "Connection": "close" if is_last else "keep-alive",
             **fields,

@@ -2,22 +2,25 @@
 
 from __future__ import annotations
 
+import json
 from collections.abc import Sequence
 from dataclasses import dataclass
-from datetime import datetime, timezone
 from typing import Any, Optional, Protocol
 
-import requests
-
-from slo_tools.clock import MINUTE
 from slo_tools.notify.config import ReceiverConfig
 from slo_tools.notify.state import OpenAlert
+from slo_tools.notify.webhook_form import message_of, moment_text
+from slo_tools.wire import Peer, Reply, Silence, address_of
 
 NOTIFIER = "slo-notify"
+# The alerts of this program that an Alertmanager has open: some 1 KiB each, for tens of thousands.
+LIST_BYTES = 32 * 1024 * 1024
+_OWN_ALERTS = "/api/v2/alerts?active=true&filter=notifier%3D%22slo-notify%22"
 
 
 class NotTaken(Exception):
-    """The receiver didn't take what was sent, or couldn't be asked."""
+    """The receiver didn't take what was sent, or couldn't be asked. The text has the receiver's
+    host alone: the path of a webhook is a secret, and what it answers may hold one."""
 
 
 @dataclass(frozen=True)
@@ -70,30 +73,28 @@ class Nobody:
 
 class _Client:
     def __init__(self, config: ReceiverConfig, timeout: float) -> None:
-        self.config = config
-        self.timeout = timeout
+        login = config.login
+        address = address_of(config.address)
+        self.place = address.place
+        self.peer = Peer(
+            address, login.credentials, login.token, login.verify, timeout, most=LIST_BYTES
+        )
 
-    def request(self, method: str, url: str, content: Any = None) -> requests.Response:
+    def request(self, method: str, path: str, content: Any = None) -> Reply:
+        """The answer of the receiver itself: what sends elsewhere isn't followed. Raises NotTaken
+        where there is none."""
+        body = b"" if content is None else json.dumps(content).encode("ascii")
+        fields = {} if content is None else {"Content-Type": "application/json"}
         try:
-            with requests.Session() as session:
-                session.trust_env = False
-                session.auth = self.config.login.credentials
-                return session.request(
-                    method,
-                    url,
-                    json=content,
-                    timeout=self.timeout,
-                    verify=self.config.login.verify,
-                    headers={"Connection": "close"},
-                )
-        except requests.RequestException as fault:
-            why = "no answer in time" if isinstance(fault, requests.Timeout) else "no connection"
-            raise NotTaken(f"{url}: {why}") from fault
+            return self.peer.asked_once(method, path, body, fields)
+        except Silence as silence:
+            raise NotTaken(f"{self.place}: {silence}") from silence
 
-
-def _date(answer: requests.Response) -> Optional[str]:
-    date: Optional[str] = answer.headers.get("Date")
-    return date
+    def refusal(self, reply: Reply) -> NotTaken:
+        elsewhere = (
+            ": it sends elsewhere, where nobody is told" if 300 <= reply.status < 400 else ""
+        )
+        return NotTaken(f"{self.place}: status {reply.status}{elsewhere}")
 
 
 class Alertmanager(_Client):
@@ -106,28 +107,34 @@ class Alertmanager(_Client):
         self.lifetime = lifetime
 
     def date(self) -> Optional[str]:
-        answer = self.request("GET", f"{self.config.address}/api/v2/status")
-        return _date(answer)
+        return self.request("GET", "/api/v2/status").date
 
     def send(self, sendings: Sequence[Sending], now: int) -> Optional[str]:
         told = [self._spelled(sending, now) for sending in sendings]
-        answer = self.request("POST", f"{self.config.address}/api/v2/alerts", told)
-        if answer.status_code != 200:
-            raise NotTaken(f"status {answer.status_code}: {answer.text[:200]}")
-        return _date(answer)
+        reply = self.request("POST", "/api/v2/alerts", told)
+        if reply.status != 200:
+            raise self.refusal(reply)
+        return reply.date
 
     def opened(self, office: str) -> list[dict[str, str]]:
-        answer = self.request("GET", f"{self.config.address}/api/v2/alerts?active=true")
-        if answer.status_code != 200:
-            raise NotTaken(f"status {answer.status_code}")
+        reply = self.request("GET", _OWN_ALERTS)
+        if reply.status != 200:
+            raise self.refusal(reply)
         try:
-            labels = [dict(alert["labels"]) for alert in answer.json()]
-        except (ValueError, KeyError, TypeError) as fault:
-            raise NotTaken(f"no list of alerts: {fault}") from fault
+            found = [_labels(alert) for alert in json.loads(reply.whole())]
+        except (
+            Silence,
+            ValueError,
+            RecursionError,
+            LookupError,
+            TypeError,
+            AttributeError,
+        ) as fault:
+            raise NotTaken(f"{self.place}: its list of alerts can't be read") from fault
         return [
-            each
-            for each in labels
-            if each.get("notifier") == NOTIFIER and each.get("office") == office
+            labels
+            for labels in found
+            if labels.get("notifier") == NOTIFIER and labels.get("office") == office
         ]
 
     def _spelled(self, sending: Sending, now: int) -> dict[str, Any]:
@@ -142,46 +149,30 @@ class Alertmanager(_Client):
         }
 
 
+def _labels(alert: Any) -> dict[str, str]:
+    labels = alert["labels"]
+    if not all(isinstance(text, str) for pair in labels.items() for text in pair):
+        raise TypeError("labels that are no texts")
+    return dict(labels)
+
+
 class Webhook(_Client):
-    """A server that is told of what begins and ends, once each, in the members that
-    Alertmanager's own webhooks have."""
+    """A server that is told of what begins and ends, once each, in the form of Alertmanager's own
+    webhooks."""
 
     kind = "webhook"
 
     def date(self) -> Optional[str]:
-        return _date(self.request("HEAD", self.config.address))
+        return self.request("HEAD", "").date
 
     def send(self, sendings: Sequence[Sending], now: int) -> Optional[str]:
-        news = [sending for sending in sendings if sending.is_news]
+        news = [(sending.alert, sending.ended) for sending in sendings if sending.is_news]
         if not news:
             return None
-        told = {
-            "alerts": [_spelled_news(sending) for sending in news],
-            "status": "firing" if any(each.ended is None for each in news) else "resolved",
-            "version": "4",
-        }
-        answer = self.request("POST", self.config.address, told)
-        if not 200 <= answer.status_code < 300:
-            raise NotTaken(f"status {answer.status_code}: {answer.text[:200]}")
-        return _date(answer)
+        reply = self.request("POST", "", message_of(news))
+        if not 200 <= reply.status < 300:
+            raise self.refusal(reply)
+        return reply.date
 
     def opened(self, office: str) -> list[dict[str, str]]:
         return []
-
-
-def _spelled_news(sending: Sending) -> dict[str, Any]:
-    alert = sending.alert
-    return {
-        "annotations": alert.annotations,
-        "endsAt": None if sending.ended is None else moment_text(sending.ended),
-        "generatorURL": alert.link,
-        "labels": alert.labels,
-        "startsAt": moment_text(alert.since),
-        "status": "firing" if sending.ended is None else "resolved",
-    }
-
-
-def moment_text(minute: int) -> str:
-    """A minute in the form of RFC 3339."""
-    moment = datetime.fromtimestamp(minute * MINUTE, timezone.utc)
-    return moment.strftime("%Y-%m-%dT%H:%M:%SZ")
