@@ -221,6 +221,21 @@ class GateAnswers(unittest.TestCase):
             status, told = gate(server.address, "frozen")
             self.assertEqual(status, expected, told)
 
+    def test_a_field_that_is_not_known_is_unknown(self) -> None:
+        office = self.three()
+        server = Replaying()
+        self.addCleanup(server.close)
+        for name, key, path in (
+            ("burning", "alertPolicies", "/objects/SLO/burning"),
+            ("frozen", "annotations", "/objects/SLO/frozen"),
+        ):
+            whole = self.recorded(office, name)
+            answer = whole[path].replace(key.encode(), key[::-1].encode())
+            server.answers = {**whole, path: answer}
+            status, told = gate(server.address, name)
+            self.assertEqual(status, 2, told)
+            self.assertIn(f"`{key[::-1]}` isn't a field that is known here", told)
+
     def test_another_object_than_the_one_asked_for_is_unknown(self) -> None:
         office = self.three()
         whole = self.recorded(office, "burning")

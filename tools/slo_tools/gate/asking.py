@@ -26,12 +26,19 @@ from slo_tools.objects import (
     condition_names,
     condition_of,
     document,
+    map_of,
 )
 from slo_tools.office import Office
 from slo_tools.questions import Outcome
 from slo_tools.refusals import Foreign, NotFound, OfficeError, Refusal
 
 PAGE = "page"
+# The fields that an office writes (docs/objects.md). In another one may stand what speaks against a
+# release, so nothing is let through that has one.
+_METADATA = frozenset(["name", "displayName", "labels", "annotations"])
+_SPEC = frozenset(
+    "description service indicatorRef timeWindow budgetingMethod objectives alertPolicies".split()
+)
 _Binding = tuple[str, int, str]
 
 
@@ -86,7 +93,7 @@ class Asker:
 
     def _read_slo(self, asked: _Asked) -> None:
         try:
-            slo = Slo(self._document("SLO", asked.name))
+            slo = Slo(_known(self._document("SLO", asked.name), _SPEC))
             asked.objectives, asked.pages = slo.objectives, slo.policies
             if not slo.service:
                 raise Foreign(200, "it has no service")
@@ -123,7 +130,7 @@ class Asker:
         assert asked.slo is not None
         documents = [asked.slo.document]
         try:
-            documents.append(self._document("Service", asked.slo.service))
+            documents.append(_known(self._document("Service", asked.slo.service)))
         except OfficeError as fault:
             asked.faults.append(f"its service can't be read: {_why(fault)}")
         for each in documents:
@@ -228,6 +235,16 @@ class Asker:
         return SloFacts(
             asked.name, service, asked.budgets.at, objectives, asked.freezes, asked.faults
         )
+
+
+def _known(document: Document, spec: Optional[frozenset[str]] = None) -> Document:
+    """A document whose fields are known. Raises Foreign."""
+    others = set(map_of(document.members.get("metadata"))) - _METADATA
+    if spec is not None:
+        others |= set(document.spec) - spec
+    if others:
+        raise Foreign(200, f"`{min(others)}` isn't a field that is known here")
+    return document
 
 
 def _why(fault: OfficeError) -> str:
