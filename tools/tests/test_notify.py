@@ -2,6 +2,7 @@
 
 from __future__ import annotations
 
+import json
 import os
 import subprocess
 import tempfile
@@ -47,8 +48,13 @@ class Webhooks(Desk):
         self.assertEqual(told["labels"]["slo"], "answers")
         self.assertEqual(told["labels"]["severity"], "page")
         self.assertEqual(told["annotations"]["target"], "0.99")
-        self.assertRegex(told["annotations"]["burn_1h"], r"^\d+/\d+$")
-        self.assertRegex(told["annotations"]["remaining"], r"^-?\d+/\d+$")
+        self.assertEqual(told["annotations"]["burn_1h"], "10")
+        self.assertRegex(
+            told["annotations"]["summary"],
+            # The long windows tell: in the hour ten times is less than the page's 14.4.
+            r"^answers \(99% in 30d\): burns 6\.25 times too fast over 6h \(page above 6\)\. "
+            r"The budget is spent 6\.2 times over\.$",
+        )
         self.assertEqual(told["generatorURL"], "http://desk/#/shop/answers")
         clock.go_on()
         self.feed(office, [clock.minute() - 1], 0)
@@ -58,7 +64,7 @@ class Webhooks(Desk):
             Fraction(each.annotations["remaining"])
             for each in rounds.offices[0].state.opened.values()
         ]
-        self.assertEqual(left, [1 - 100 * Fraction(7, 97)])
+        self.assertEqual(left, [round(1 - 100 * Fraction(7, 97), 4)])
         self.assertGreater(Fraction(told["annotations"]["remaining"]), left[0])
         for _ in range(8):
             clock.go_on()
@@ -69,6 +75,12 @@ class Webhooks(Desk):
         clock.go_on()
         rounds.round()
         self.assertEqual(hook.told(), [("workbook-page", "firing"), ("workbook-page", "resolved")])
+        self.assertRegex(
+            hook.alerts[1]["annotations"]["summary"],
+            r"^answers \(99% in 30d\): back to normal, a burn rate of 0\S* over 1h \(page above 14.4\)",
+        )
+        self.assertEqual(hook.alerts[1]["annotations"]["state"], "quiet")
+        self.assertNotIn("breaching", json.dumps(hook.alerts[1]))
         self.assertEqual(office.client().notices(), [])
 
     def test_the_overview_tells_where_the_history_begins(self) -> None:

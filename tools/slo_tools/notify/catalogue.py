@@ -4,9 +4,11 @@ from __future__ import annotations
 
 from collections.abc import Iterable, Sequence
 from dataclasses import dataclass, field
+from typing import Optional
 
 from slo_tools.notify.slices import BUILT_IN_WINDOWS, slice_width
 from slo_tools.notify.staleness import stale_of
+from slo_tools.notify.wording import BUILT_IN_RULES, Rule, rule_of
 from slo_tools.objects import BUILT_IN, Document, Slo, document, map_of
 from slo_tools.office import Office
 from slo_tools.refusals import NotFound, OfficeError
@@ -17,10 +19,12 @@ KINDS = ("Service", "AlertCondition", "AlertPolicy", "SLO")
 
 @dataclass(frozen=True)
 class Policy:
-    """A policy's severity, and the minutes of its windows."""
+    """A policy's severity, the minutes of its windows, its rules, and its object where it has one."""
 
     severity: str
     windows: tuple[int, ...]
+    rules: tuple[Rule, ...] = ()
+    document: Optional[Document] = None
 
 
 @dataclass
@@ -95,14 +99,16 @@ def _add_policies(
     made: Catalogue, policies: dict[str, Document], conditions: dict[str, Document]
 ) -> None:
     for name, windows in BUILT_IN_WINDOWS.items():
-        made.policies[name] = Policy(BUILT_IN[name].severity, windows)
+        made.policies[name] = Policy(BUILT_IN[name].severity, windows, BUILT_IN_RULES[name])
     for name, policy in policies.items():
         items = policy.spec.get("conditions")
         names = [str(map_of(each).get("conditionRef")) for each in _listed(items)]
         specs = [conditions[each].spec for each in names if each in conditions]
         lookbacks = [_lookback(spec) for spec in specs]
         severity = str(specs[-1].get("severity", "")) if specs else ""
-        made.policies[name] = Policy(severity, tuple(each for each in lookbacks if each))
+        windows = tuple(each for each in lookbacks if each)
+        rules = tuple(rule for rule in map(rule_of, specs) if rule is not None)
+        made.policies[name] = Policy(severity, windows, rules, policy)
 
 
 def _lookback(spec: dict[str, object]) -> int:

@@ -14,7 +14,7 @@ from typing import Any, Optional
 from slo_tools.answers import Notice
 from slo_tools.clock import Clock, minute_of
 from slo_tools.notify import own_alerts
-from slo_tools.notify.alerts import annotations_of, labels_of, link_of
+from slo_tools.notify.alerts import annotations_of, labels_of, link_of, lookbacks_of
 from slo_tools.notify.arrivals import Arrivals
 from slo_tools.notify.clock_trust import ClockTrust, office_fault
 from slo_tools.notify.config import Config, OfficeConfig
@@ -274,7 +274,8 @@ class OfficeRound:
     def _alert(self, binding: Binding, state: str, at: int) -> OpenAlert:
         """An alert as it stands at a minute. One that is open keeps its begin and its labels."""
         watch = self.watch
-        budget, burns = watch.numbers(binding.slo, binding.objective, at)
+        more = lookbacks_of(watch.catalogue, binding)
+        budget, burns = watch.numbers(binding.slo, binding.objective, at, more)
         before = self.state.opened.get(binding)
         if before is None:
             labels, since = labels_of(watch.catalogue, self.config.name, binding), at
@@ -284,12 +285,13 @@ class OfficeRound:
         return OpenAlert(labels, annotations, since, self._link(binding), state)
 
     def _refresh(self, decisions: Decisions, present: dict[Binding, Present]) -> None:
-        """What goes on is told by the numbers of this minute."""
+        """What goes on is told by the numbers of this minute, and so is what ends."""
         at = self.watch.at
-        for binding in decisions.again:
-            before = self.state.opened[binding]
-            if at is not None and present[binding].state is not None:
-                now = self._alert(binding, before.state or "breaching", at)
+        for binding in [*decisions.again, *decisions.end]:
+            before, state = self.state.opened[binding], present[binding].state
+            if at is not None and state is not None:
+                said = state if binding in decisions.end else before.state or "breaching"
+                now = self._alert(binding, said, at)
                 self.state.opened[binding] = replace(now, state=before.state)
 
     def _link(self, binding: Optional[Binding]) -> str:

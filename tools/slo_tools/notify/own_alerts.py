@@ -7,10 +7,10 @@ from dataclasses import replace
 from fractions import Fraction
 from typing import NamedTuple, Optional
 
-from slo_tools.clock import DAY
 from slo_tools.notify.receiver import NOTIFIER
 from slo_tools.notify.staleness import Stop
 from slo_tools.notify.state import OpenAlert
+from slo_tools.notify.wording import spelled_minutes
 
 # Above this part of a limit the office is told to be filling.
 FILLING = Fraction(9, 10)
@@ -108,10 +108,3 @@ def watchdog(since: int, link: str) -> OpenAlert:
     labels = {"alertname": WATCHDOG, "notifier": NOTIFIER, "severity": "none"}
     text = "slo-notify works: where this alert ends or isn't repeated, nothing is paged"
     return OpenAlert(labels, {"summary": text}, since, link)
-
-
-def spelled_minutes(minutes: int) -> str:
-    """A length of time for people: `21 min`, `3 h`, `9 d`."""
-    if minutes < 120:
-        return f"{minutes} min"
-    return f"{minutes // 60} h" if minutes < 2 * DAY else f"{minutes // DAY} d"

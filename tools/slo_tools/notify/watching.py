@@ -3,7 +3,7 @@
 from __future__ import annotations
 
 import time
-from collections.abc import Callable, Collection, Iterator
+from collections.abc import Callable, Collection, Iterator, Sequence
 from dataclasses import dataclass, field
 from fractions import Fraction
 from typing import Any, Optional
@@ -245,14 +245,17 @@ class Watch:
         return not any(holds_slice(at, window, width) for window in windows)
 
     def numbers(
-        self, slo: str, objective: int, at: Optional[int]
+        self, slo: str, objective: int, at: Optional[int], more: Collection[str] = ()
     ) -> tuple[Optional[Budget], dict[str, Optional[Fraction]]]:
-        """Budget and burns of an objective at a minute, as far as the office gives them."""
-        asked: list[Question[Any]] = [questions.budgets(slo, at), *_burns(slo, objective, at)]
+        """Budget and burns of an objective at a minute, as far as the office gives them; `more` are
+        lookbacks beside the usual ones."""
+        lookbacks = tuple(dict.fromkeys([*LOOKBACKS, *more]))
+        burns = _burns(slo, objective, at, lookbacks)
+        asked: list[Question[Any]] = [questions.budgets(slo, at), *burns]
         outcomes: Iterator[Outcome[Any]] = iter(self.office.asked(asked))
         budgets = _budgets_of(next(outcomes))[0]
         budget = budgets[objective] if objective < len(budgets) else None
-        return budget, _burns_of(outcomes)
+        return budget, _burns_of(outcomes, lookbacks)
 
     def ask_views(self) -> None:
         """The numbers of all SLOs, for the overview."""
@@ -309,13 +312,17 @@ def _budgets_of(outcome: Outcome[Budgets]) -> tuple[list[Budget], Optional[str]]
     return [], fault.word if isinstance(fault, Refusal) else str(fault)
 
 
-def _burns(slo: str, objective: int, at: Optional[int]) -> list[Question[Burn]]:
-    return [questions.burn(slo, objective, lookback, at) for lookback in LOOKBACKS]
+def _burns(
+    slo: str, objective: int, at: Optional[int], lookbacks: Sequence[str] = LOOKBACKS
+) -> list[Question[Burn]]:
+    return [questions.burn(slo, objective, lookback, at) for lookback in lookbacks]
 
 
-def _burns_of(outcomes: Iterator[Outcome[Burn]]) -> dict[str, Optional[Fraction]]:
+def _burns_of(
+    outcomes: Iterator[Outcome[Burn]], lookbacks: Sequence[str] = LOOKBACKS
+) -> dict[str, Optional[Fraction]]:
     burns: dict[str, Optional[Fraction]] = {}
-    for lookback in LOOKBACKS:
+    for lookback in lookbacks:
         outcome = next(outcomes)
         burns[lookback] = None if outcome.fault is not None else outcome.get().burn
     return burns
