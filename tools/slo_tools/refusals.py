@@ -4,6 +4,8 @@ from __future__ import annotations
 
 from typing import Any
 
+from slo_tools.spelling import printable
+
 Members = dict[str, Any]
 
 
@@ -22,7 +24,7 @@ class Foreign(OfficeError):
     """An answer that no office gives: a proxy's password page, or another server at that port."""
 
     def __init__(self, status: int, why: str) -> None:
-        super().__init__(f"status {status}: {why}")
+        super().__init__(printable(f"status {status}: {why}"))
         self.status = status
 
 
@@ -34,7 +36,7 @@ class Refusal(OfficeError):
         self.word = str(members.get("error", ""))
         self.members = {key: value for key, value in members.items() if key != "error"}
         told = " ".join(f"{key}={value}" for key, value in self.members.items())
-        super().__init__(f"{status} {self.word} {told}".rstrip())
+        super().__init__(printable(f"{status} {self.word} {told}".rstrip()))
 
     def number(self, name: str) -> int:
         """A member that is a whole number, as `row`, `minute`, `revision`, `origin`, `moment`.

@@ -20,6 +20,12 @@ def percent(part: Fraction) -> str:
     return f"{sign}{abs(hundredths) // 100}.{abs(hundredths) % 100:02}%"
 
 
+def printable(text: str, most: int = 500) -> str:
+    """A text of others as it may stand in a line of a log or a terminal: no controls, and cut."""
+    shown = text if len(text) <= most else f"{text[:most]} .."
+    return "".join(sign if sign.isprintable() else "?" for sign in shown)
+
+
 def times(value: Fraction) -> str:
     """A number for people, rounded down: with two decimals below 2, with one below 100."""
     digits = 2 if value < 2 else 1 if value < 100 else 0

@@ -152,7 +152,7 @@ class Peer:
         lines = [f"{method} {self.address.path + path or '/'} HTTP/1.1"]
         lines += [f"{name}: {value}" for name, value in told.items()]
         head = "\r\n".join([*lines, "", ""])
-        return head.encode("latin-1") + body
+        return head.encode("utf-8") + body
 
     def asked_once(
         self, method: str, path: str = "", body: bytes = b"", fields: Mapping[str, str] = {}

@@ -97,6 +97,14 @@ class Gate(unittest.TestCase):
         self.assertIn("workbook-page is breaching", told)
         self.assertEqual(self.gate(office, "ticket")[0], 0)
 
+    def test_names_write_nothing_but_their_place_in_the_table(self) -> None:
+        named = slo("a").replace("displayName: Answers", 'displayName: "x\u009b2J\u0085release"')
+        office = self.office(named)
+        office.client().ask("POST", ["samples"], body=self.rows(1, 120, 990))
+        status, told = self.gate(office, "a")
+        self.assertEqual((status, told.splitlines()[-1]), (1, "hold"))
+        self.assertIn("0 x?2J?release  0.99", told)
+
     def test_a_declared_freeze_holds(self) -> None:
         at = time.strftime("%Y-%m-%d", time.gmtime(time.time() - 86_400))
         until = time.strftime("%Y-%m-%d", time.gmtime(time.time() + 2 * 86_400))

@@ -130,6 +130,8 @@ class GateAnswers(unittest.TestCase):
             status, told = gate(proxy.address, "burning")
             self.assertNotEqual(status, 0, (cut, told))
             self.assertTrue(status == 2 or told == whole, (cut, told))
+            if cut % 5:
+                continue
             proxy.cuts = [cut]
             with mock.patch.object(command, "PAUSES", Pauses(tries=2, first=0.0)):
                 self.assertEqual(gate(proxy.address, "burning"), (1, whole), cut)

@@ -19,7 +19,7 @@ from support import SHOP, OfficeServer, needed, running_office
 
 from slo_tools import questions
 from slo_tools.office import Office, Pauses
-from slo_tools.refusals import Foreign, NoAnswer, NotFound, OfficeError
+from slo_tools.refusals import Foreign, NoAnswer, NotFound, OfficeError, Refusal
 from slo_tools.wire import Peer, Silence, TooLong, address_of
 
 ORIGIN = 29_000_000
@@ -323,6 +323,16 @@ class TypedTest(unittest.TestCase):
             with self.subTest(content=content[:20]), hostile(says(spelled(content))) as server:
                 with self.assertRaises(Foreign):
                     Office(server.address, pauses=ONCE).notices()
+
+    def test_what_is_told_of_an_answer_is_short_and_printable(self) -> None:
+        members = {"error": "x\x1b[2J\u009b" + "y" * 10_000, "which": "\ud800"}
+        for status in ("409 Conflict", "422 No"):
+            with hostile(says(spelled(dumped(members), status=status))) as server:
+                with self.assertRaises(Refusal) as caught:
+                    Office(server.address, pauses=ONCE).notices()
+            told = str(caught.exception)
+            self.assertLess(len(told), 600)
+            self.assertTrue(told.isprintable(), told)
 
     def test_only_json_is_read_as_json(self) -> None:
         for kind in ("text/html", "text/plain", "application/octet-stream"):

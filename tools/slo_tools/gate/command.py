@@ -15,7 +15,7 @@ from slo_tools.gate.judging import Judged, Reason, SloFacts, Terms, Verdict, jud
 from slo_tools.office import Pauses
 from slo_tools.office_options import add_office_options, office_of
 from slo_tools.refusals import OfficeError
-from slo_tools.spelling import percent, spelled_fraction
+from slo_tools.spelling import percent, printable, spelled_fraction
 
 # What passes is tried again; a pipeline waits some seconds for it, not for minutes.
 PAUSES = Pauses(tries=4, first=0.5, longest=4.0)
@@ -162,14 +162,14 @@ def _print_table(verdict: Verdict, judged: list[Judged]) -> None:
 
 
 def _row(line: Judged) -> tuple[str, str, str, str, str, str]:
-    why = "; ".join(reason.why for reason in line.reasons) or "-"
+    why = printable("; ".join(reason.why for reason in line.reasons)) or "-"
     facts = line.objective
     if facts is None:
         return WORDS[line.verdict], line.slo, "-", "-", "-", why
     number = str(facts.number)
     name = number if facts.display == number else f"{number} {facts.display}"
     left = "-" if facts.remaining is None else percent(facts.remaining)
-    return WORDS[line.verdict], line.slo, name, facts.target, left, why
+    return WORDS[line.verdict], line.slo, printable(name), printable(facts.target), left, why
 
 
 def _print_json(verdict: Verdict, facts: list[SloFacts], judged: list[Judged], now: int) -> None:
