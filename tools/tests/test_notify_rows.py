@@ -3,18 +3,24 @@ ends."""
 
 from __future__ import annotations
 
+import struct
 import time
 import unittest
 from collections.abc import Sequence
 from typing import Any
+from unittest import mock
 
 import yaml
 from notify_support import Desk, HeldClock, Hook, timed_office
 from support import SHOP, OfficeServer
 
+from slo_tools.notify.arrivals import Arrivals
 from slo_tools.notify.rounds import Rounds
 from slo_tools.notify.slices import holds_slice, last_holding, shortest_holding
 from slo_tools.notify.staleness import BadStale, Stop, label_of, next_stops, read_stale
+from slo_tools.office import Office
+from slo_tools.questions import Answer
+from slo_tools.refusals import Foreign
 
 
 def document(kind: str, name: str, spec: dict[str, Any], stale: str = "") -> str:
@@ -237,11 +243,11 @@ class Silence(Rows):
         self.assertEqual(hook.told(), [("SloDataStale", "firing")] * 2)
         told = hook.alerts[1]["annotations"]
         self.assertEqual(told["indicators"], "cart, good, pay")
-        self.assertIn("No rows of 3 indicators (cart, good, pay) for 11 min", told["summary"])
+        self.assertIn("No rows of 3 indicators (cart, good, pay) for up to 11 min", told["summary"])
         self.go_on(clock, office, rounds, 1, names=names[:3])
         self.assertEqual(hook.told()[2:], [("SloDataStale", "resolved")])
         self.assertEqual(hook.alerts[2]["labels"], hook.alerts[1]["labels"])
-        self.assertIn("Rows come again", hook.alerts[2]["annotations"]["summary"])
+        self.assertIn("No rows are lacking any more", hook.alerts[2]["annotations"]["summary"])
         self.go_on(clock, office, rounds, 1, names=names)
         self.assertEqual(hook.told()[3:], [("SloDataStale", "resolved")])
 
@@ -254,6 +260,34 @@ class Silence(Rows):
             clock.go_on()
             self.assertTrue(self.hooked(clock, office, hook, "stale = 4100").round())
         self.assertEqual(hook.told(), [("SloDataStale", "firing")])
+
+    def test_entries_that_no_office_keeps_move_nothing(self) -> None:
+        feed = b"OSLOFEED" + struct.pack(">III", 0, 7, 1)
+        row = b"\x04good\x03web" + struct.pack(">IIBII", 500, 1, 0, 1, 1)
+        record = struct.pack(">IBH", 501, 4, 1) + row
+        whole = feed + struct.pack(">I", len(record)) + record
+        self.assertEqual(self.newest(whole), {"good": 500})
+        spoilt = [
+            whole[:-1],
+            whole[:-20],
+            b"OSLOJRN1" + whole[8:],
+            feed[:12] + struct.pack(">I", 8) + whole[16:],
+            # A row of the future would hide for years that none come.
+            whole.replace(struct.pack(">I", 500), struct.pack(">I", 60_000_000)),
+            whole.replace(b"good", b"go\xffd"),
+            b"",
+        ]
+        for content in spoilt:
+            with self.subTest(content=content), self.assertRaises(Foreign):
+                self.newest(content)
+
+    def newest(self, content: bytes) -> dict[str, int]:
+        office = Office("http://127.0.0.1:1")
+        answer = Answer(200, None, content, None, "application/octet-stream")
+        arrivals = Arrivals(position=7)
+        with mock.patch.object(office, "answer", return_value=answer):
+            arrivals.ask(office, 8, 600, ["good"])
+        return arrivals.newest
 
     def test_a_quiet_night_is_set_by_objective_or_service(self) -> None:
         night = document("Service", "night", {}, "30m")

@@ -33,8 +33,9 @@ class Arrivals:
     newest: dict[str, int] = field(default_factory=dict)
     position: Optional[int] = None
 
-    def ask(self, office: Office, entries: int, wanted: Iterable[str]) -> None:
-        """Reads what came since the last time, and looks back for wanted indicators at first.
+    def ask(self, office: Office, entries: int, at: int, wanted: Iterable[str]) -> None:
+        """Reads what came since the last time, and looks back for wanted indicators at first; `at`
+        is the office's moment, which no row has reached.
 
         Raises a Refusal where the office doesn't hand its entries out, or Foreign.
         """
@@ -42,26 +43,26 @@ class Arrivals:
             # It is another office, or an older copy.
             self.newest, self.position = {}, None
         if self.position is not None and entries - self.position <= MOST:
-            self._read(office, self.position, entries)
+            self._read(office, self.position, entries, at)
             return
         length = FIRST
         begin = end = entries
         while begin > 0 and length <= MOST:
             begin = max(0, entries - length)
-            self._read(office, begin, end)
+            self._read(office, begin, end, at)
             if all(name in self.newest for name in wanted):
                 break
             end, length = begin, length * 4
         self.position = entries
 
-    def _read(self, office: Office, begin: int, end: int) -> None:
+    def _read(self, office: Office, begin: int, end: int, at: int) -> None:
         """Takes the rows of the entries [begin, end), as far as the pages of a round go."""
         for _ in range(PAGES):
             if begin >= end:
                 break
             records = _page(office, begin)
             for record in records:
-                for sli, minute in _rows_of(record):
+                for sli, minute in _rows_of(record, at):
                     self.newest[sli] = max(minute, self.newest.get(sli, 0))
             begin += len(records)
             if not records:
@@ -90,8 +91,9 @@ def records_of(content: bytes, begin: int) -> Iterator[bytes]:
         place += 4 + length
 
 
-def _rows_of(record: bytes) -> Iterator[tuple[str, int]]:
-    """Indicator and minute of each row of a batch that wasn't withdrawn."""
+def _rows_of(record: bytes, at: int) -> Iterator[tuple[str, int]]:
+    """Indicator and minute of each row of a batch that wasn't withdrawn. Raises Foreign for bytes
+    that no office keeps."""
     if record[4] != _SAMPLES:
         return
     try:
@@ -99,6 +101,8 @@ def _rows_of(record: bytes) -> Iterator[tuple[str, int]]:
     except NotAnEntry as fault:
         raise Foreign(200, f"the feed of entries has another form: {fault.why}") from fault
     if isinstance(command, Samples):
+        if any(row.minute >= at for row in command.rows):
+            raise Foreign(200, f"the feed of entries has rows behind the office's moment {at}")
         for row in command.rows:
             if row.amount is not None:
                 yield row.sli, row.minute

@@ -21,10 +21,10 @@ AWAY, CLOCK = "away", "clock"
 WATCHDOG = "Watchdog"
 
 _ENDS = {
-    "SloDataStale": "Rows come again: {indicator}.",
+    "SloDataStale": "No rows are lacking any more: {indicator}.",
     "SloOfficeAway": "The office {office} answers again.",
     "SloOfficeClock": "The moment of the office {office} is this machine's again.",
-    "SloOfficeFilling": "The office {office} has room again: {what}.",
+    "SloOfficeFilling": "Less than nine tenths of the {what} of the office {office} are used.",
     "SloOfficeFull": "The office {office} takes changes again.",
 }
 
@@ -48,8 +48,10 @@ def _stale_fault(label: str, stop: Stop, ages: Mapping[str, Optional[int]]) -> O
     names = ", ".join(stop.members[:NAMES])
     if len(stop.members) > NAMES:
         names += f" and {len(stop.members) - NAMES} more"
-    who = names if len(stop.members) == 1 else f"{len(stop.members)} indicators ({names})"
     span = spelled_minutes(max(known)) if known else "more than 30 days"
+    who = names
+    if len(stop.members) > 1:
+        who, span = f"{len(stop.members)} indicators ({names})", f"up to {span}"
     text = f"No rows of {who} for {span}: look at slo-feed's log. Open alerts stay open meanwhile."
     return OwnFault(
         {"alertname": "SloDataStale", "indicator": label, "severity": "page"},

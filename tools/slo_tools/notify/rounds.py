@@ -3,6 +3,7 @@
 from __future__ import annotations
 
 import sys
+import time
 from concurrent.futures import Future, ThreadPoolExecutor, wait
 from typing import Any, Optional
 
@@ -58,8 +59,9 @@ class Rounds:
         self._running: dict[str, Future[bool]] = {}
 
     def round(self, most: Optional[float] = None) -> bool:
-        """One round; whether everything went well. It waits so many seconds for offices, without a
-        number for all: one that isn't done by then goes on by itself, and is told as silent."""
+        """One round; whether everything went well. It waits for all offices, or, with a number, so
+        many seconds for those that had a fault, and half of the time between rounds for the others:
+        one that isn't done by then goes on by itself, and is told as silent."""
         clock_fault = self._clock()
         self.untrusted = 0 if clock_fault is None else self.untrusted + 1
         is_well = self._offices(clock_fault, most) and clock_fault is None
@@ -100,14 +102,21 @@ class Rounds:
             if running is None or running.done():
                 work = self._pool.submit(office.round, clock_fault)
                 self._running[office.config.name] = work
-        wait(self._running.values(), timeout=most)
+        self._wait(most)
         return all([self._is_well(office) for office in self.offices])
+
+    def _wait(self, most: Optional[float]) -> None:
+        begin = time.monotonic()
+        well = [self._running[each.config.name] for each in self.offices if each.fault is None]
+        wait(well, timeout=None if most is None else max(most, self.config.every / 2))
+        left = None if most is None else max(0, most - (time.monotonic() - begin))
+        wait(self._running.values(), timeout=left)
 
     def _is_well(self, office: OfficeRound) -> bool:
         running = self._running[office.config.name]
         if running.done():
             return running.result()
-        late = f"its answers haven't come in {self.config.timeout} s"
+        late = office.fault or "its answers take longer than half a round"
         self.told.say(f"office {office.config.name}", late)
         self.metrics.up.labels(office.config.name).set(0)
         office.entry = {**office.entry, "fault": late, "up": False}

@@ -135,7 +135,8 @@ def _read_alert(told: Mapping[str, Any]) -> OpenAlert:
         _texts(told["annotations"]),
         _number(told["since"]),
         _text(told["link"]),
-        _text(told.get("state", "")),
+        # Files of 1.5 have it among what was told.
+        _text(told.get("state", told["annotations"].get("state", ""))),
     )
 
 

@@ -156,7 +156,7 @@ class Watch:
         self._exclusions = exclusions_of(self.office)
         wanted = self.catalogue.indicators()
         try:
-            self.arrivals.ask(self.office, self.entries, wanted)
+            self.arrivals.ask(self.office, self.entries, self.at, wanted)
             by_rows = True
         except (Refusal, Foreign):
             # An office, or a proxy, that doesn't hand entries out.
@@ -173,11 +173,12 @@ class Watch:
     def _seek(self, indicator: str, slos: list[Slo]) -> None:
         """Finds the newest minute with events of an indicator, by its SLOs' burn rates."""
         assert self.at is not None
-        guess = self.at - self.arrivals.newest.get(indicator, self.at - 1)
+        known = self.arrivals.newest.get(indicator, 0)
+        guess = self.at - known if known else 1
         found = [age_or_none(self.office, slo.name, 0, self.at, guess) for slo in slos]
         ages = [age for age in found if age is not None]
         if ages:
-            self.arrivals.newest[indicator] = self.at - min(ages)
+            self.arrivals.newest[indicator] = max(known, self.at - min(ages))
 
     def presents(self, bindings: Collection[Binding]) -> dict[Binding, Present]:
         """How each binding stands, and whether its end can be believed."""
