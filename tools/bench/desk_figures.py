@@ -1,4 +1,4 @@
-"""Measure the desk's tools over a real office of 200 SLOs, and over a folder and a journal."""
+"""Measure the desk's tools over a real office of 200 SLOs, over 50 of 40, a folder and a journal."""
 
 from __future__ import annotations
 
@@ -8,7 +8,8 @@ import subprocess
 import sys
 import tempfile
 import time
-from collections.abc import Callable
+from collections.abc import Callable, Sequence
+from contextlib import ExitStack
 from pathlib import Path
 
 sys.path.insert(0, str(Path(__file__).resolve().parent.parent / "tests"))
@@ -22,6 +23,8 @@ from slo_tools.notify.config import read_config  # noqa: E402
 from slo_tools.yaml_reading import read_yaml  # noqa: E402
 
 SLOS = 200
+# A fleet: so many offices of so many SLOs.
+OFFICES, EACH = 50, 40
 
 
 def documents(number: int) -> str:
@@ -50,9 +53,9 @@ spec:
 SERVICE = "apiVersion: openslo/v1\nkind: Service\nmetadata: {name: shop}\nspec: {}\n"
 
 
-def folder_of_slos(place: Path) -> None:
+def folder_of_slos(place: Path, slos: int = SLOS) -> None:
     (place / "service.yaml").write_text(SERVICE)
-    for number in range(SLOS):
+    for number in range(slos):
         (place / f"{number:03}.yaml").write_text(documents(number))
 
 
@@ -75,10 +78,10 @@ def told(name: str, clock: float, used: float) -> None:
     print(f"{name}: {clock:.2f} s of the clock, {used:.2f} s of the processor", flush=True)
 
 
-def feed(office: OfficeServer, now: int) -> None:
+def feed(office: OfficeServer, now: int, slos: int = SLOS) -> None:
     client = office.client()
     with client.kept_link():
-        for number in range(SLOS):
+        for number in range(slos):
             rows = (f"sli-{number},web,{now - n},1,999,1000\n" for n in range(1, 301))
             client.ask("POST", ["samples"], body="".join(rows).encode())
 
@@ -108,21 +111,41 @@ def with_office(words: set[str]) -> None:
             )
             told(f"slo-gate, a service of {SLOS} SLOs", clock, used)
         if "notify" in words:
-            rounds_of(office, place)
+            rounds_of([office], place, SLOS)
 
 
-def rounds_of(office: OfficeServer, place: Path) -> None:
+def rounds_of(offices: Sequence[OfficeServer], place: Path, slos: int) -> None:
     config = place / "notify.toml"
+    listed = "".join(
+        f'[[office]]\nname = "{number}"\naddress = "{office.address}"\n'
+        for number, office in enumerate(offices)
+    )
     config.write_text(
         f'state = "{place}/state.json"\noverview = "{place}/overview.json"\nclock = "trusted"\n'
-        f'[[office]]\nname = "shop"\naddress = "{office.address}"\n'
+        f"{listed}"
     )
     rounds = made_rounds(read_config(config), SystemClock())
     taken = [processor(rounds.round) for _ in range(6)]
     size = (place / "overview.json").stat().st_size
     clock = statistics.median(each[0] for each in taken)
     used = statistics.median(each[1] for each in taken)
-    told(f"slo-notify, a round of {SLOS} SLOs with an overview of {size} bytes", clock, used)
+    name = f"slo-notify, a round of {len(offices)} offices with {slos} SLOs each"
+    told(f"{name}, an overview of {size} bytes", clock, used)
+
+
+def fleet() -> None:
+    """Many offices under one slo-notify."""
+    now = int(time.time()) // 60
+    with tempfile.TemporaryDirectory() as made, ExitStack() as ends:
+        place = Path(made)
+        folder_of_slos(place, EACH)
+        offices = []
+        for _ in range(OFFICES):
+            office = ends.enter_context(running_office(now - 50_000))
+            run_tool("slo-apply", "--office", office.address, str(place))
+            feed(office, now, EACH)
+            offices.append(office)
+        rounds_of(offices, place, EACH)
 
 
 def journal() -> None:
@@ -148,11 +171,13 @@ def _message(path: str, body: bytes) -> bytes:
 
 
 def main(words: list[str]) -> None:
-    wanted = set(words) or {"notify", "gate", "apply", "journal"}
+    wanted = set(words) or {"notify", "gate", "apply", "journal", "fleet"}
     if wanted & {"notify", "gate", "apply"}:
         with_office(wanted)
     if "journal" in wanted:
         journal()
+    if "fleet" in wanted:
+        fleet()
 
 
 if __name__ == "__main__":
