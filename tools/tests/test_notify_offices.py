@@ -148,14 +148,14 @@ class Answers(Several):
         dribblers = [Dribbler() for _ in range(6)]
         for each in dribblers:
             self.addCleanup(each.close)
-        rounds = self.several(*(each.address for each in dribblers), more="timeout = 2\nevery = 2")
+        rounds = self.several(*(each.address for each in dribblers), more="timeout = 2\nevery = 4")
         taken = []
         for _ in range(2):
             begin = time.monotonic()
             self.assertFalse(rounds.round(most=1))
             taken.append(time.monotonic() - begin)
-        # They are waited for a second: those that were well before, and those with a fault.
-        self.assertLess(max(taken), 2.5)
+        # Half of the time between rounds they are waited for, and no more.
+        self.assertLess(max(taken), 3.5)
         self.assertEqual(self.of_the_right_one(), [("SloBurn", "firing")])
         entries = {each["name"]: each for each in self.overview()["offices"]}
         self.assertTrue(entries["right"]["up"])
