@@ -27,6 +27,7 @@ MAX_LOOKBACK = 43_200
 MINUTES_A_DAY = 1_440
 
 NAME = re.compile(r"[a-z0-9]([a-z0-9-]{0,61}[a-z0-9])?")
+ZONE_NAMES = "a zone's name has 1 to 63 letters, digits and . _ - / +, as Europe/Berlin"
 ZONE_NAME = re.compile(r"[A-Za-z0-9._/+-]{1,63}")
 DECIMAL = re.compile(r"(\d+)(?:\.(\d{1,9}))?", re.ASCII)
 MOMENT = re.compile(r"\d{4}-\d\d-\d\d \d\d:\d\d:\d\d", re.ASCII)
@@ -150,8 +151,7 @@ def _name_hint(node: Node) -> str:
 
 def _zone_name(faults: Faults, node: Node, path: str) -> None:
     if not isinstance(node, Scalar) or not ZONE_NAME.fullmatch(node.text):
-        why = "a zone's name has 1 to 63 letters, digits and . _ - / +, as Europe/Berlin"
-        faults.add(node.place, "bad_name", path, why)
+        faults.add(node.place, "bad_name", path, ZONE_NAMES)
 
 
 def _word(words: Sequence[str], rule: str = "bad_word") -> Form:

@@ -8,7 +8,7 @@ from dataclasses import dataclass
 from typing import Optional
 
 from slo_tools.apply.folder import Document, Folder, Told
-from slo_tools.apply.form import MOST_FAULTS, NAME, faults_of, key_of
+from slo_tools.apply.form import MOST_FAULTS, NAME, ZONE_NAME, ZONE_NAMES, faults_of, key_of
 from slo_tools.apply.hints import of_limit
 from slo_tools.apply.scratch import Answer, Message, Scratch
 from slo_tools.nodes import Fault, Fields, Items, Node, Place, Scalar, items_at, node_at, text_at
@@ -87,13 +87,17 @@ def _put_zones(scratch: Scratch, folder: Folder, base: Base) -> list[Told]:
     own = {zone.name for zone in folder.zones}
     faults = []
     for zone in folder.zones:
+        # A name stands in a request's head, where a line's end begins something else.
+        if not ZONE_NAME.fullmatch(zone.name):
+            faults.append(Told(zone.file, Fault(Place(1, 1), "bad_name", why=ZONE_NAMES)))
+            continue
         answer = scratch.one(Message("PUT", f"/zones/{zone.name}", zone.content))
         if answer.status != 200:
             word = str(answer.members.get("error", ""))
             rule = "bad_zone" if word in ("bad_zone", "not_found") else word
             why = str(answer.members.get("which", zone.name))
             faults.append(Told(zone.file, Fault(Place(1, 1), rule, why=why)))
-    for name in sorted(base.zones - own - {"UTC"}):
+    for name in sorted(filter(ZONE_NAME.fullmatch, base.zones - own - {"UTC"})):
         scratch.one(Message("PUT", f"/zones/{name}", b"UTC0"))
     return faults
 
