@@ -102,10 +102,10 @@ class Past(unittest.TestCase):
         self.assertTrue(told[-1].startswith("done: "), told)
         return lines
 
-    def rows(self, *, sli: str = "web") -> None:
+    def rows(self) -> None:
         """A thousand events in the midst of each of three months, 1, 2 and 3 of them bad."""
         middles = [minute(month_before(number) + timedelta(days=14)) for number in (1, 2, 3)]
-        rows = [f"{sli},a,{middle},1,{1000 - bad},1000\n" for bad, middle in enumerate(middles, 1)]
+        rows = [f"web,a,{middle},1,{1000 - bad},1000\n" for bad, middle in enumerate(middles, 1)]
         self.office.ask("POST", ["samples"], body="".join(rows).encode())
 
     def left_by_window(self, slo: str, objective: int) -> dict[str, str]:
@@ -130,14 +130,20 @@ class Past(unittest.TestCase):
         self.write(sli("web"), slo("month"))
         self.apply()
         self.rows()
+        # In the window in which the history begins: one of its first minutes and its last one.
+        last = minute(month_before(4)) - 1
+        body = f"web,a,{ORIGIN},1,1000,1000\nweb,a,{last},1,996,1000\n"
+        self.office.ask("POST", ["samples"], body=body.encode())
         self.assertEqual(self.apply("--plan")[0], 0)
         self.write(sli("web"), slo("month", target="0.9995"))
         lines = self.past()
         front = "past: SLO month, objective 0,"
         begins = [spelled(month_before(number)) for number in (3, 2, 1, 0)]
+        first = f"{spelled(month_before(5))} to {spelled(month_before(4))}"
         self.assertEqual(
             lines,
             [
+                f"{front} {first}: 60.00% left becomes -300.00% left",
                 f"{front} {begins[0]} to {begins[1]}: 40.00% left becomes -500.00% left",
                 f"{front} {begins[1]} to {begins[2]}: 60.00% left becomes -300.00% left",
                 f"{front} {begins[2]} to {begins[3]}: 80.00% left becomes -100.00% left",
@@ -146,6 +152,36 @@ class Past(unittest.TestCase):
         after = self.left_by_window("month", 0)
         self.assertEqual(list(after.values()), ["-500.00% left", "-300.00% left", "-100.00% left"])
         self.assertEqual(self.apply("--plan")[0], 0)
+
+    def test_slices_of_the_first_window_are_counted_to_its_end(self) -> None:
+        """Of two slices with events the last one has 0.8."""
+        last = minute(month_before(4)) - 1
+        self.write(sli("web"))
+        self.apply()
+        body = f"web,a,{ORIGIN},1,1000,1000\nweb,a,{last},1,800,1000\n"
+        self.office.ask("POST", ["samples"], body=body.encode())
+        for method, width, wanted in (
+            ("Timeslices", "5m", "-400.00% left becomes 0.00% left"),
+            ("Timeslices", "60m", "-400.00% left becomes 0.00% left"),
+            ("RatioTimeslices", "20m", "0.00% left becomes 80.00% left"),
+        ):
+            with self.subTest(method=method, width=width):
+                text = slo("sliced", target="0.9").replace("Occurrences", method)
+                text = text.replace(
+                    "- target: 0.9\n    timeSliceW",
+                    "- target: 0.9\n    timeSliceTarget: 1\n    timeSliceW",
+                )
+                text = text.replace("timeSliceWindow: 5m", f"timeSliceWindow: {width}")
+                self.write(sli("web"), text)
+                self.apply("--past-changes")
+                self.write(
+                    sli("web"),
+                    text.replace(
+                        "target: 0.9\n    timeSliceTarget: 0.9",
+                        "target: 0.5\n    timeSliceTarget: 0.9",
+                    ),
+                )
+                self.assertEqual([line.split("Z: ")[-1] for line in self.past()], [wanted])
 
     def test_a_changed_calendar_is_told_window_by_window(self) -> None:
         (self.folder / "zones" / "Europe").mkdir(parents=True)
@@ -159,8 +195,8 @@ class Past(unittest.TestCase):
         after = self.left_by_window("month", 1)
         self.assertEqual((len(before), len(after)), (3, 3))
         wanted = {
-            *(f"{span}: {left} becomes no window" for span, left in before.items()),
-            *(f"{span}: no window becomes {left}" for span, left in after.items()),
+            *(f"{span}: {left} becomes none" for span, left in before.items()),
+            *(f"{span}: none becomes {left}" for span, left in after.items()),
         }
         self.assertEqual(set(lines), wanted)
 

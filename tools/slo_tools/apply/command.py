@@ -59,7 +59,7 @@ def parser() -> argparse.ArgumentParser:
     made.add_argument(
         "--allow-silent-policies",
         action="store_true",
-        help="take a policy that can never fire on an SLO's slices",
+        help="take policies whose shortest window never sees a whole slice of an SLO",
     )
     made.add_argument(
         "--allow-unread-queries",

@@ -506,7 +506,7 @@ RULES = {
     "not_file": "this is no file, or leads to none",
     "control": "a control character",
     "limit": "there is too much",
-    "no_slice": "the policy can never fire on slices of this width",
+    "no_slice": "the policy's shortest window holds no whole slice",
     "unread_query": "slo-feed won't read this query",
-    "few_slices": "the policy can't be active at each minute on slices of this width",
+    "few_slices": "the policy's shortest window holds a whole slice at some minutes alone",
 }

@@ -9,9 +9,11 @@ from fractions import Fraction
 from typing import NamedTuple, Optional
 
 from slo_tools.apply.folder import Zone
+from slo_tools.apply.form import slice_minutes
 from slo_tools.apply.judging import Name, calendar_zones, define, rank_of
 from slo_tools.apply.planning import Definition, Plan, Running, node_of, spelled
 from slo_tools.apply.scratch import Message, Scratch
+from slo_tools.apply.slices import SLICED
 from slo_tools.clock import date_of
 from slo_tools.nodes import Fields, Items, Node, Scalar, items_at, node_at, text_at
 from slo_tools.office import Office
@@ -81,7 +83,7 @@ def _of_change(past: Past, change: _Change) -> Iterator[str]:
     windows_differ = not _same(*change.spec("timeWindow"))
     if not reasons and not windows_differ and _targets(change.before) == _targets(change.after):
         return
-    over = _windows_over(past.office, change.name)
+    over = _windows_over(past.office, change)
     counted = [window for window in over if any(den for _, den in window.sums)]
     if not counted:
         return
@@ -120,7 +122,7 @@ def _judged(
 
 
 def _left(remaining: Optional[Fraction]) -> str:
-    return "no window" if remaining is None else f"{percent(remaining)} left"
+    return "none" if remaining is None else f"{percent(remaining)} left"
 
 
 def _left_by_window(
@@ -151,19 +153,50 @@ def _otherwise_counted(change: _Change) -> Iterator[str]:
                 yield f"{key} of objective {number} {before or 'none'} becomes {after or 'none'}"
 
 
-def _windows_over(office: Office, slo: str) -> list[_Window]:
+def _windows_over(office: Office, change: _Change) -> list[_Window]:
     """The calendar windows of an SLO that are over since a year, with its sums."""
     status = office.status()
     if status is None:
         return []
     at, origin = status["at"], status["origin"]
+    since = max(origin, at - A_YEAR)
     try:
-        found = office.one(_windows(slo, max(origin, at - A_YEAR), at))
+        found = office.one(_windows(change.name, since, at))
+        begins_within = bool(found) and since == origin
+        first = _first_window(office, change, origin, found[0][0]) if begins_within else None
     except Refusal:
         return []
-    return [
+    over = [
         _Window((begin, end), sums) for begin, end, sums in found if end is not None and end <= at
     ]
+    return over if first is None else [first, *over]
+
+
+def _first_window(office: Office, change: _Change, origin: int, end: int) -> Optional[_Window]:
+    """The window in which the history begins, which no list of windows has: the budgets up to its
+    last minute, and what that adds."""
+    if end == origin:
+        return None
+    try:
+        budgets = office.budgets(change.name, end - 1).budgets
+    except NotFound:
+        # The calendar's first window begins later.
+        return None
+    sums = []
+    for budget, width in zip(budgets, _widths(change.before)):
+        ((num, den),) = office.sums(
+            change.name, budget.objective, max(origin, end - width), end, width
+        )
+        sums.append((budget.num + num, budget.den + den))
+    begin = budgets[0].begin
+    return None if begin is None else _Window((begin, end), sums)
+
+
+def _widths(slo: Fields) -> list[int]:
+    """The minutes of each objective's slices; events are counted by the minute."""
+    is_sliced = text_at(slo, "spec", "budgetingMethod") in SLICED
+    texts = [text_at(item, "timeSliceWindow") for item in items_at(slo, "spec", "objectives")]
+    return [(slice_minutes(text or "") or 1) if is_sliced else 1 for text in texts]
 
 
 def _windows(
@@ -186,7 +219,10 @@ def _windows_after(
     zones = calendar_zones([change.after]) - {"UTC"} - {zone.name for zone in past.zones}
     if zones or node_at(next(items_at(change.after, "spec", "timeWindow")), "calendar") is None:
         return None
-    first, last = before[0].span[0], before[-1].span[1]
+    status = past.office.status()
+    if status is None:
+        return None
+    first, last = max(before[0].span[0], status["origin"]), before[-1].span[1]
     spans = [span for span in _spans(past, change.name, first, last) if span[1] <= last]
     objectives = range(len(_targets(change.before)))
     asked = [
