@@ -201,6 +201,8 @@ class Judging(Folders):
                 self.assertRegex(lines[0], r"^a\.yaml:\d+:\d+: spec\.ratioMetric\.(good|total)\.")
                 self.assertIn(": unread_query: slo-feed won't read ", lines[0])
                 self.assertIn(told, lines[0])
+                is_there = "there is no" not in told
+                self.assertEqual(".metricSource.spec.query: unread_query: " in lines[0], is_there)
                 status, lines = self.check("--allow-unread-queries")
                 self.assertEqual((status, lines[0]), (0, "4 objects, no fault"))
                 self.assertIn(": warning: ", lines[1])

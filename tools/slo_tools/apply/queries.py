@@ -69,7 +69,7 @@ def _faults(sli: Found, types: Mapping[str, Optional[str]]) -> Iterator[Fault]:
         elif is_counter and part.path not in VALUES and types[sources[0]] == "Prometheus":
             refusal = fault_of(part.query.text.strip())
             if refusal is not None:
-                yield _fault(sli, part, part.query.place, f"{refusal} (a query of counters)")
+                yield _fault(sli, part, part.query.place, refusal, ".spec.query")
 
 
 def _parts(sli: Found) -> Iterator[_Part]:
@@ -80,6 +80,8 @@ def _parts(sli: Found) -> Iterator[_Part]:
             yield _Part(path, source.place, named, node_at(source, "spec", "query"))
 
 
-def _fault(sli: Found, part: _Part, place: Place, why: str) -> Fault:
+def _fault(sli: Found, part: _Part, place: Place, why: str, key: str = "") -> Fault:
     path = sli.at(".".join(["spec", *part.path, "metricSource"]))
-    return Fault(place, UNREAD, path, f"slo-feed won't read {part.word} of SLI {sli.name}: {why}")
+    return Fault(
+        place, UNREAD, path + key, f"slo-feed won't read {part.word} of SLI {sli.name}: {why}"
+    )
