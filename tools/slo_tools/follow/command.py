@@ -92,7 +92,7 @@ class Run:
         self.watch, self.clock = watch, clock
         self._fault: Optional[str] = None
         self._is_whole = False
-        following.compared = self._seal
+        following.after_comparison = self._seal
 
     def run(self, once: bool, whole: bool) -> int:
         """Follow the office; the exit status."""

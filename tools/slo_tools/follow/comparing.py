@@ -31,7 +31,7 @@ class Held:
         self.at += 1
 
 
-def asked(source: Source, at: int, origin: int) -> Feed:
+def feed_at(source: Source, at: int, origin: int) -> Feed:
     """The feed from a position that the copy has, or is at. Raises Diverged, and NoFeed."""
     try:
         feed = source.feed(at)

@@ -65,8 +65,10 @@ def read_feed(content: bytes) -> Feed:
 
 
 def asking(office: Office) -> Callable[[int], Answer]:
-    """What asks an office once for the feed from a position on."""
-    return lambda at: office.answer("GET", ["entries"], {"from": at}, pauses=Pauses(tries=1))
+    """What asks an office for the feed from a position on. It asks twice, since a link that was kept
+    may have been closed while the copy took a feed."""
+    pauses = Pauses(tries=2, first=0.2)
+    return lambda at: office.answer("GET", ["entries"], {"from": at}, pauses=pauses)
 
 
 @dataclass(frozen=True)
@@ -80,17 +82,17 @@ class Source:
 
     def feed(self, at: int) -> Feed:
         """The feed from a position on. Raises NoFeed, or Fewer."""
-        feed = self._asked(at)
+        feed = self._answered(at)
         if not self.is_plain:
             return feed
-        again = self._asked(at)
+        again = self._answered(at)
         shorter = min(feed, again, key=lambda it: len(it.records))
         count = len(shorter.records)
         if feed.origin != again.origin or feed.records[:count] != again.records[:count]:
             raise NoFeed("two feeds from one position differ")
         return shorter
 
-    def _asked(self, at: int) -> Feed:
+    def _answered(self, at: int) -> Feed:
         try:
             answer = self.ask(at)
         except OfficeError as fault:

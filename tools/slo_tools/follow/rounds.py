@@ -8,7 +8,7 @@ from pathlib import Path
 from typing import Optional
 
 from slo_tools.clock import Clock
-from slo_tools.follow.comparing import Diverged, Held, asked, compare
+from slo_tools.follow.comparing import Diverged, Held, compare, feed_at
 from slo_tools.follow.copy_file import CopyFile, Damaged
 from slo_tools.follow.feeds import Feed, Source
 from slo_tools.follow.state import FILE, State, read_state, write_state
@@ -40,7 +40,7 @@ class Following:
         self._held: Optional[Held] = None
         self._written = 0.0
         self.state = State()
-        self.compared: Callable[[Path], None] = lambda journal: None
+        self.after_comparison: Callable[[Path], None] = lambda journal: None
 
     @property
     def journal(self) -> Path:
@@ -106,14 +106,14 @@ class Following:
         """A feed that begins before the copy's end; what both have is alike."""
         last = copy.last_records()
         held = Held(iter(last), copy.entries - len(last))
-        feed = asked(self.source, held.at, copy.origin)
+        feed = feed_at(self.source, held.at, copy.origin)
         compare(feed, held)
         return feed
 
     def _behind(self, copy: CopyFile) -> Feed:
         """The feed from the copy's end on: a long entry has no room behind one that both have. Then
         these are compared once more, since the office may have been another one meanwhile."""
-        feed = asked(self.source, copy.entries, copy.origin)
+        feed = feed_at(self.source, copy.entries, copy.origin)
         if feed.records:
             self._overlapping(copy)
         return feed
@@ -173,12 +173,12 @@ class Following:
     def compare_some(self) -> None:
         """Compare one feed's entries. Raises Diverged, and NoFeed: then it goes on later."""
         assert self._held is not None
-        feed = asked(self.source, self._held.at, self._opened().origin)
+        feed = feed_at(self.source, self._held.at, self._opened().origin)
         if compare(feed, self._held):
             LOG.info("all %d entries are those of the office", self._held.at)
             self._held = None
             self.state.compared = int(self._clock.now())
-            self.compared(self.journal)
+            self.after_comparison(self.journal)
 
     # What is remembered
 
