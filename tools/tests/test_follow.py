@@ -587,8 +587,6 @@ class Command(unittest.TestCase):
         self.assertEqual(len(err.splitlines()), 1)
         self.assertIn("begin a new copy: move ", err)
         self.assertIn("slo_follow_diverged 1.0\n", self.metrics.read_text())
-        told = json.loads((copy / "follow.json").read_text())
-        self.assertIsNotNone(told["diverged"])
         # By chance the office has the same ticks now; what was found stays until all is compared.
         moments = [int.from_bytes(it[:4], "big") for it in self.copied()]
         self.office.stop()
@@ -597,14 +595,25 @@ class Command(unittest.TestCase):
         self.office.start()
         self.assertEqual(self.run_once()[0], 9)
         self.assertEqual((copy / "office.journal").read_bytes(), before)
-        (copy / "office.journal").write_bytes(journal_bytes(ORIGIN, [tick(moments[0] - 1)]))
-        (copy / "follow.json").write_text(json.dumps({**told, "entries": 1}))
-        self.assertEqual(self.run_once("--whole")[0], 9)
-        self.assertEqual(self.copied(), [tick(moments[0] - 1)])
-        (copy / "office.journal").write_bytes(before)
         self.assertEqual(self.run_once("--whole")[:2], (0, "0 entries came, 3 are there\n"))
         self.assertEqual(self.run_once()[0], 0)
         self.assertIn("slo_follow_diverged 0.0\n", self.metrics.read_text())
+
+    def test_a_copy_that_differs_far_back_takes_nothing_while_all_is_compared(self) -> None:
+        entries = [tick(ORIGIN + n // 2) for n in range(6_000)]
+        copy = Folder(self.folder / "copy")
+        copy.path.mkdir()
+        other = [*entries[:8], tick(ORIGIN + 3), *entries[9:5_000]]
+        copy.journal.write_bytes(journal_bytes(ORIGIN, other))
+        before = copy.journal.read_bytes()
+        self.office.stop()
+        (self.office.folder / "office.journal").write_bytes(journal_bytes(ORIGIN, entries))
+        self.office.start()
+        write_state(copy.path / "follow.json", State(5_000, None, int(time.time()), "diverges"))
+        status, _, err = self.run_once("--whole")
+        self.assertEqual(status, 9)
+        self.assertIn("diverges at 8: ", err)
+        self.assertEqual(copy.journal.read_bytes(), before)
 
     def test_each_whole_comparison_seals_the_copy(self) -> None:
         self.write('seals = "seals"')

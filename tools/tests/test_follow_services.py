@@ -17,7 +17,7 @@ CONFIG = (
 )
 TICK = "curl -s -X POST http://127.0.0.1:8080/tick"
 STATE = f"sudo cat {COPY}/follow.json"
-UNIT = "systemctl show --property=ActiveState,ExecMainStatus,NRestarts --value slo-follow | xargs"
+UNIT = "systemctl show --property=NRestarts,ExecMainStatus,ActiveState --value slo-follow | xargs"
 COMMANDS = {
     "install": "sudo apt install ./*.deb curl",
     "disabled": "systemctl is-enabled slo-follow slo-seal.timer | xargs",
@@ -60,18 +60,18 @@ class FollowServicesTest(unittest.TestCase):
             self.assertIsNotNone(told["compared"])
         self.assertIn("alike", said["alike"].text, log)
         self.assertNotIn("root", said["users"].text)
-        self.assertEqual(said["kill"].text, "active 0 1\n", log)
+        self.assertEqual(said["kill"].text, "1 0 active\n", log)
         # A seal is made; another history has status 9, and isn't started again.
         self.assertIn(" entries 4 bytes ", said["seal"].text, log)
         self.assertEqual(said["timer"].text, "active\n")
-        self.assertEqual(said["restore"].text, "failed 9 0\n", log)
-        self.assertTrue(said["stays"].text.startswith("failed 9 0\n"), log)
+        self.assertEqual(said["restore"].text, "0 9 failed\n", log)
+        self.assertTrue(said["stays"].text.startswith("0 9 failed\n"), log)
         self.assertIn('"diverged": "', said["stays"].text)
         self.assertIn("begin a new copy: move /var/lib/slo-follow/office.journal away", log)
         self.assertIn("failed", said["unsealed"].text)
         self.assertIn("not sealed: the seal of line 1, of ", log)
         # A new copy is begun as the page says, and outlives the package.
-        self.assertTrue(said["renewed"].text.startswith("active 0 0\n"), log)
+        self.assertTrue(said["renewed"].text.startswith("0 0 active\n"), log)
         self.assertIn('"entries": 1', said["renewed"].text)
         self.assertEqual(said["purge"].text.count("/office.journal"), 1)
         for name in ("office.journal", "before.journal", "seals"):
