@@ -20,7 +20,7 @@ from feeds import journal, tick
 from groups.clients import HOST, front
 from groups.following import compare, made, service
 from groups.tools import lacking
-from office import EXAMPLES, TOP, Lost, Office, Server, define, message, minute_now
+from office import TOP, Lost, Office, Server, define, message, minute_now
 from report import Report, Skipped
 
 TOOL = TOP / "tools" / "bin" / "slo-follow"
@@ -173,10 +173,12 @@ def ticked_copy(office: Office, follower: Follower, origin: int) -> None:
 
 
 def renewed(office: Office, follower: Follower, origin: int) -> None:
-    """The office is renewed by the example, and goes on."""
-    cut = str(minute_now() - 5_000)
-    done = subprocess.run([EXAMPLES / "serve" / "renew", office.folder, cut, "--program", office.program], capture_output=True, text=True)
-    assert done.returncode == 0, done.stdout + done.stderr
+    """The office is made anew of what it exports, and goes on."""
+    requests = office.run("export", "1")
+    assert requests.returncode == 0, requests
+    office.journal.write_bytes(journal(origin, []))
+    done = office.run("pipe", data=requests.stdout)
+    assert done.returncode == 0 and b"HTTP/1.1 4" not in done.stdout, done
     ticked(office, 9)
 
 
@@ -192,8 +194,6 @@ def divergences(report: Report) -> None:
     """An office and a copy with different histories: said by each asking, and the copy stays as it was."""
     origin = minute_now() - 10_000
     for number, (name, part) in enumerate(WAYS.items()):
-        if part is renewed and not (EXAMPLES / "serve" / "renew").exists():
-            continue
         with report.case(f"another history: {name}"):
             office, follower = Office(report.program, report.folder(f"way-{number}"), origin), Follower(report, f"way-{number}-copy")
             office.ask([define(objects.ratio("good"))])
@@ -248,27 +248,30 @@ def small_disk(folder: Path, blocks: int) -> Iterator[None]:
 
 
 def full_disk(report: Report) -> None:
-    """A copy on a disk with few free blocks: all came, or it isn't said."""
-    origin = minute_now() - 10_000
-    office = Office(report.program, report.folder("full"), origin)
-    office.ask([define(objects.ratio("good"))])
-    lines = ["".join(f"good,web{n},{origin + m},1,1,2\n" for m in range(100)) for n in range(10)]
-    assert all(it.status == 200 for it in office.ask(message("POST", "/samples", it) for it in lines))
-    seen = set()
-    with report.case("a disk with few free blocks: what is missing is told"), office.serving() as server:
-        for blocks in (2, 3, 4, 6, 8, 9, 10, 11, 12, 13, 14, 20):
-            follower = Follower(report, f"full-{blocks}")
-            with small_disk(follower.folder, blocks):
-                follower.copy.journal.write_bytes(journal(origin, office.records()[:1]))
-                status, line = follower.run(server.base)
-                there = len(follower.records())
-                assert follower.records() == office.records()[:there], "no front"
-                if status == DONE:
-                    assert line == "10 entries came, 11 are there" and there == 11, (blocks, line, there)
-                else:
-                    assert status == NO_COPY, (blocks, status, line)
-                seen.add((status, there == 11))
-        assert {(DONE, True), (NO_COPY, False)} <= seen, seen
+    """A copy on a disk with few free blocks: all came, or it isn't said. Ten entries that need a block each, or none."""
+    for size, sizes in ((1, (1, 2, 3, 4, 5, 6)), (100, (2, 4, 6, 8, 9, 10, 11, 12, 13, 20))):
+        origin = minute_now() - 10_000
+        office = Office(report.program, report.folder(f"full-{size}"), origin)
+        office.ask([define(objects.ratio("good"))])
+        batches = ["".join(f"good,web{n},{origin + m},1,1,2\n" for m in range(size)) for n in range(10)]
+        assert all(it.status == 200 for it in office.ask(message("POST", "/samples", it) for it in batches))
+        with report.case(f"a disk with few free blocks, batches of {size}: what is missing is told"), office.serving() as server:
+            seen = {on_small_disk(Follower(report, f"full-{size}-{blocks}"), server, office, origin, blocks) for blocks in sizes}
+            assert seen == {DONE, NO_COPY}, seen
+
+
+def on_small_disk(follower: Follower, server: Server, office: Office, origin: int, blocks: int) -> int:
+    """The status of an asking whose copy, of one entry, lies on a disk of so many blocks."""
+    with small_disk(follower.folder, blocks):
+        follower.copy.journal.write_bytes(journal(origin, office.records()[:1]))
+        status, line = follower.run(server.base)
+        there = follower.records()
+        assert there == office.records()[: len(there)], "no front"
+        if status == DONE:
+            assert (line, len(there)) == ("10 entries came, 11 are there", 11), (blocks, line, len(there))
+        else:
+            assert status == NO_COPY, (blocks, status, line)
+    return status
 
 
 class Writer(threading.Thread):
