@@ -16,7 +16,7 @@ from support import TOOLS, TOP, free_port, needed, program
 
 PAGE = TOP / "docs" / "desk.md"
 EXAMPLES = TOP / "examples" / "desk"
-INSTALLED = "/usr/share/doc/slo-office-tools/examples/desk"
+INSTALLED = "/usr/share/doc/slo-office/examples/desk"
 PORTS = ("8080", "8081", "9193", "9464")
 PAGE_INSTALLED = "/usr/share/slo-office-tools/page"
 MARK = "\001"

@@ -16,7 +16,7 @@ from support import TOOLS, TOP, free_port, needed, program
 
 PAGE = TOP / "docs" / "feeding.md"
 EXAMPLES = TOP / "examples" / "feed"
-INSTALLED = "/usr/share/doc/slo-office-tools/examples/feed"
+INSTALLED = "/usr/share/doc/slo-office/examples/feed"
 
 
 def commands() -> list[str]:

@@ -12,7 +12,7 @@ import machine
 from support import TOP
 
 PAGE = TOP / "docs" / "desk.md"
-EXAMPLES = "/usr/share/doc/slo-office-tools/examples"
+EXAMPLES = "/usr/share/doc/slo-office/examples"
 UNITS = ("slo_office", "slo-feed", "slo-notify")
 ALL = " ".join(UNITS)
 STATES = f"systemctl show --property=ActiveState,NRestarts --value {ALL} | xargs"
@@ -35,6 +35,16 @@ COMMANDS = {
     "budgets": BUDGETS,
     "overview": "cat /run/slo-notify/overview.json",
     "metrics": "curl -s http://127.0.0.1:9469/metrics http://127.0.0.1:9464/metrics",
+    # Ended again and again by something that passes, they are there when it has passed.
+    "hurry": f"for it in {ALL}; do sudo mkdir -p /etc/systemd/system/$it.service.d;"
+    " printf '[Service]\\nRestartSec=0\\n' | sudo tee /etc/systemd/system/$it.service.d/hurry.conf;"
+    " done; sudo systemctl daemon-reload",
+    "often": f"for n in $(seq 8); do sudo systemctl kill --signal=KILL {ALL}; sleep 2; done;"
+    f" systemctl is-active {ALL} | xargs",
+    "leisure": "sudo rm -r /etc/systemd/system/s*.service.d; sudo systemctl daemon-reload;"
+    f" sudo systemctl restart {ALL}; sleep 5",
+    "origin": "sudo head -c 13 /var/lib/private/slo_office/office.journal | tail -c 4 | od -An -tu1;"
+    " cat /etc/default/slo_office",
     "kill": f"sudo systemctl kill --signal=KILL {ALL}; sleep 15; {STATES}",
     "kept": BUDGETS,
     "remove": f"sudo apt remove slo-office slo-office-tools; systemctl is-active {ALL} | xargs",
@@ -84,12 +94,20 @@ class ServicesTest(unittest.TestCase):
         # Killed, they come back, and nothing is lost.
         self.assertTrue(said["kill"].text.endswith("1 active 1 active 1 active\n"), log)
         self.assertGreaterEqual(self.budget(said["kept"].text)["den"], before["den"])
+        self.assertTrue(said["often"].text.endswith("active active active\n"), log)
+        self.assertEqual(*self.origins(said["origin"].text))
         # Without the package they are ended; the journal stays, and outlives a purge.
         self.assertTrue(said["remove"].text.endswith("inactive inactive inactive\n"), log)
         self.assertIn("state.json", said["left"].text)
         self.assertIn("office.journal", said["purge"].text)
         self.assertNotIn("state.json", said["purge"].text)
         self.assertGreaterEqual(self.budget(said["still"].text)["den"], before["den"])
+
+    def origins(self, text: str) -> tuple[int, int]:
+        """The journal's first minute, and the one that the page's first command wrote down."""
+        held, wanted = text.splitlines()
+        found = int.from_bytes(bytes(map(int, held.split())), "big")
+        return found, int(wanted.removeprefix("ORIGIN="))
 
     def budget(self, text: str) -> dict[str, Any]:
         told: dict[str, Any] = json.loads(text)["budgets"][0]
