@@ -302,6 +302,44 @@ def stops(report: Report) -> None:
         assert done.returncode == 0 and kept.read_bytes() == before, done
 
 
+# Runs the script with one call of its own that fails, by name, from the time at which the old journal has its second name.
+FAILING = """
+import os, runpy, shutil, sys
+where, name, kept = sys.argv[1:4]
+module = {"os": os, "shutil": shutil}[where]
+usual = getattr(module, name)
+def failing(*words, **more):
+    if os.path.exists(kept) and os.stat(kept).st_nlink == 1:
+        raise OSError(5, "Input/output error")
+    return usual(*words, **more)
+setattr(module, name, failing)
+sys.argv = sys.argv[4:]
+runpy.run_path(sys.argv[0], run_name="__main__")
+"""
+
+
+def behind_the_swap(report: Report) -> None:
+    """What fails once the new file has the journal's name is told, and is no failure."""
+    minutes = 50_000
+    cut = minute_now() - 45_000
+    cases = {
+        "the folder of a renewal can't be removed": (["shutil", "rmtree"], r"renew: \S+/renewal is left, remove it: .*Input/output error\n"),
+        "the folder of the journal can't be synced": (["os", "fsync"], r"renew: the journal is renewed; a loss of power may bring the old one back: .*\n"),
+        "the account can't be printed": ([], r"renew: the journal is renewed; its account can't be printed: .*\n"),
+    }
+    for number, (case, (failing, pattern)) in enumerate(cases.items()):
+        with report.case(f"a journal is renewed though {case}"):
+            office = old_office(report, f"behind{number}", minute_now() - minutes - 5, minutes)
+            before, kept = office.journal.read_bytes(), office.folder / f"before-{cut}.journal"
+            words = [RENEW, office.folder, str(cut), "--program", office.program]
+            front = ["/usr/bin/python3", "-c", FAILING, *failing, kept] if failing else []
+            with open("/dev/full", "wb") as full:
+                done = subprocess.run([*front, *words], stdout=subprocess.PIPE if failing else full, stderr=subprocess.PIPE, text=True)
+            assert done.returncode == 0 and re.fullmatch(pattern, done.stderr), done
+            assert kept.read_bytes() == before and len(office.journal.read_bytes()) < len(before), "it isn't renewed"
+            assert not failing or "\nalike " in done.stdout, done.stdout
+
+
 def run(report: Report) -> None:
-    for part in (parts, largest, faults, renewals, later_origin, refusals, stops):
+    for part in (parts, largest, faults, renewals, later_origin, refusals, stops, behind_the_swap):
         part(report)
