@@ -2,7 +2,8 @@
 from __future__ import annotations
 
 import traceback
-from collections.abc import Iterator
+from collections.abc import Callable, Iterator, Sequence
+from concurrent.futures import ThreadPoolExecutor
 from contextlib import contextmanager
 from dataclasses import dataclass, field
 from pathlib import Path
@@ -42,3 +43,9 @@ class Report:
         path = self.room / name
         path.mkdir(parents=True)
         return path
+
+    def side_by_side(self, parts: Sequence[Callable[[], None]], at_once: int) -> None:
+        """Parts that mostly wait, each with a program of its own, at the same time."""
+        with ThreadPoolExecutor(at_once) as pool:
+            for it in [pool.submit(part) for part in parts]:
+                it.result()

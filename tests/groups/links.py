@@ -7,6 +7,8 @@ import resource
 import subprocess
 import threading
 import time
+from collections.abc import Callable
+from functools import partial
 from pathlib import Path
 
 from office import EXAMPLES, Link, Lost, Office, Server, free_port, message, minute_now
@@ -229,6 +231,9 @@ def slow_links(report: Report, server: Server) -> None:
         assert links[-1].answer().status == 200
         for link in links:
             link.cut()
+
+
+def slow_messages(report: Report, server: Server) -> None:
     with report.case("a message has 10 s from its first byte to its last"):
         link = server.link()
         link.send(ASKED[:-1])
@@ -242,6 +247,9 @@ def slow_links(report: Report, server: Server) -> None:
         assert not any(map(is_open_no_more, (silent, busy)))
         time.sleep(4)
         assert is_closed(silent) and is_closed(busy), "one waits on"
+
+
+def slow_takers(report: Report, server: Server) -> None:
     with report.case("one that takes nothing of long answers for 10 s is closed"):
         link = server.link()
         link.send(message("GET", f"/objects/Service/{LONG}") * 500)
@@ -300,17 +308,32 @@ def few_descriptors(report: Report, office: Office) -> None:
                 link.cut()
 
 
-def run(report: Report) -> None:
-    office = Office(report.program, report.folder("office"), ORIGIN)
+def quick_links(report: Report, server: Server) -> None:
+    idle_links(report, server)
+    streams(report, server)
+    too_many(report, server)
+
+
+def filled_office(report: Report, name: str) -> Office:
+    """An office with an SLO, and a service whose text is long."""
+    office = Office(report.program, report.folder(name), ORIGIN)
     texts = (EXAMPLES / "targets.yaml").read_bytes() + b"---\n" + (EXAMPLES / "shop.yaml").read_bytes()
     long = service(LONG, LONG_BYTES)
     assert [it.status for it in office.ask([message("POST", "/objects", text) for text in (texts, long)])] == [200, 200]
-    with office.serving() as server:
-        idle_links(report, server)
-        streams(report, server)
-        too_many(report, server)
-        slow_links(report, server)
-        with report.case("the server ran to the end"):
+    return office
+
+
+def over_server(report: Report, part: Callable[[Report, Server], None]) -> None:
+    """A part over an office of its own, so that its links hold up no other part's."""
+    with filled_office(report, part.__name__).serving() as server:
+        part(report, server)
+        with report.case(f"the server of {part.__name__} ran to the end"):
             assert server.child.poll() is None
-    late_requests(report, office)
-    few_descriptors(report, office)
+
+
+def run(report: Report) -> None:
+    over_server(report, quick_links)
+    over_server(report, slow_links)
+    late_requests(report, filled_office(report, "late"))
+    waiting = [partial(over_server, report, it) for it in (slow_messages, slow_takers)]
+    report.side_by_side([*waiting, lambda: few_descriptors(report, filled_office(report, "few"))], 3)

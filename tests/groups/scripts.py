@@ -6,6 +6,7 @@ from __future__ import annotations
 
 import re
 import subprocess
+from functools import partial
 
 from office import TOP
 from report import Report, Skipped
@@ -22,16 +23,19 @@ SCRIPTS = {
     "calendar_months": "the windows of calendars against Python's zones",
 }
 MOST_SECONDS = 180
+# Half of their time they wait: for minutes of held clocks, links, copies.
+AT_ONCE = 2
+
+
+def tried(report: Report, name: str, what: str) -> None:
+    with report.case(f"{name}: {what}"):
+        done = subprocess.run([TOP / "tests" / name, report.program], capture_output=True, text=True, timeout=MOST_SECONDS)
+        assert done.returncode == 0, (done.stdout + done.stderr)[-1500:]
+        lacking = re.search(r"(?m)^(.*): skipped$", done.stdout)
+        if lacking:
+            raise Skipped(lacking[1])
 
 
 def run(report: Report) -> None:
-    for name, what in SCRIPTS.items():
-        path = TOP / "tests" / name
-        if not path.exists():
-            continue
-        with report.case(f"{name}: {what}"):
-            done = subprocess.run([path, report.program], capture_output=True, text=True, timeout=MOST_SECONDS)
-            assert done.returncode == 0, (done.stdout + done.stderr)[-1500:]
-            lacking = re.search(r"(?m)^(.*): skipped$", done.stdout)
-            if lacking:
-                raise Skipped(lacking[1])
+    present = {name: what for name, what in SCRIPTS.items() if (TOP / "tests" / name).exists()}
+    report.side_by_side([partial(tried, report, name, what) for name, what in present.items()], AT_ONCE)

@@ -37,16 +37,34 @@ CLIENTS = 64
 MAX_ROWS = 3_500_000
 MAX_CELLS = 1_900_000
 SEED = 1
+# As many changes as the short form makes: its export is 25 parts, and each part opens the journal.
+ENOUGH = 25_000
 QUERIES = ("/budgets/shop-slo", "/burns/shop-slo/0?lookback=1h", "/burns/shop-slo/1?lookback=3d", "/notices")
 
 
 @dataclass(frozen=True)
 class Span:
-    """The minutes of the rows, and how long the clients ask."""
+    """The minutes of the rows, how long the clients ask at most, and after how many changes they end."""
 
     origin: int
     now: int
     seconds: float
+    changes: int
+
+
+@dataclass
+class Course:
+    """How far the clients are: they end with the time, or with enough answered changes."""
+
+    span: Span
+    begun: float = field(default_factory=time.monotonic)
+    changes: int = 0
+
+    def share(self) -> float:
+        return min(1.0, max((time.monotonic() - self.begun) / self.span.seconds, self.changes / self.span.changes))
+
+    def is_over(self) -> bool:
+        return self.share() >= 1
 
 
 def named(data: bytes) -> bytes:
@@ -122,10 +140,10 @@ class Sender:
 class Client(threading.Thread):
     """A client that asks until the time is over, and cuts some of its links."""
 
-    def __init__(self, number: int, server: Server, span: Span, until: float) -> None:
+    def __init__(self, number: int, server: Server, course: Course) -> None:
         super().__init__(daemon=True)
-        self.number, self.server, self.span, self.until = number, server, span, until
-        self.sender = Sender(number, span)
+        self.number, self.server, self.course = number, server, course
+        self.sender = Sender(number, course.span)
         self.links = 0
         self.asked: list[Asked] = []
         self.sent: set[bytes] = set()
@@ -159,6 +177,8 @@ class Client(threading.Thread):
         if answer.status != 200:
             self.refused.append(f"{answer.status} {answer.body[:80]!r}")
             return
+        if is_change:
+            self.course.changes += 1
         asked.entry = answer.told.get("entry") if is_change else None
         asked.seen = answer.told.get("entries")
         self.asked.append(asked)
@@ -182,7 +202,7 @@ class Client(threading.Thread):
                 if self.again and chance.random() < 0.7:
                     change = self.again
                 elif chance.random() < 0.6:
-                    change = self.sender.change(1 - max(0.0, self.until - time.monotonic()) / self.span.seconds)
+                    change = self.sender.change(self.course.share())
                 self.again = change
                 self.ask(link, change or self.sender.query(), change is not None)
                 self.again = None
@@ -193,11 +213,11 @@ class Client(threading.Thread):
 
     def run(self) -> None:
         try:
-            while time.monotonic() < self.until:
+            while not self.course.is_over():
                 try:
                     self.turn()
                 except OSError as why:
-                    if time.monotonic() < self.until:
+                    if not self.course.is_over():
                         self.refused.append(str(why))
         except Exception as why:
             self.fault = repr(why)
@@ -206,24 +226,24 @@ class Client(threading.Thread):
 class Copier(threading.Thread):
     """Copies the journal while it is written, and opens each copy in a folder of its own."""
 
-    def __init__(self, office: Office, span: Span, until: float) -> None:
+    def __init__(self, office: Office, course: Course) -> None:
         super().__init__(daemon=True)
-        self.office, self.span, self.until = office, span, until
+        self.office, self.course = office, course
         self.copies: list[list[bytes]] = []
         self.fault: str | None = None
 
     def run(self) -> None:
-        while time.monotonic() < self.until and not self.fault:
+        while not self.course.is_over() and not self.fault:
             with tempfile.TemporaryDirectory() as aside:
                 copy = Office(self.office.program, Path(aside))
                 shutil.copyfile(self.office.journal, copy.journal)
                 try:
-                    told, kept = copy.report(self.span.now), copy.records()
+                    told, kept = copy.report(self.course.span.now), copy.records()
                     assert f"entries {len(kept)}\n" in told, f"a copy of {len(kept)} records: {told[:100]}"
                     self.copies.append([named(it) for it in kept])
                 except AssertionError as why:
                     self.fault = f"a copy doesn't open: {why}"
-            time.sleep(min(2.0, self.span.seconds / 20))
+            time.sleep(0.5)
 
 
 def request(record: bytes) -> bytes:
@@ -281,12 +301,13 @@ def soak(office: Office, span: Span) -> Soaked:
     one, other = ("  - target: 0.999\n", "  - target: 0.99\n")
     office.ask([define(objects.ratio("good"), objects.service("shop"), objects.slo("shop-slo", "good", one + other, ["workbook-page"])), message("POST", "/upgrade")])
     with office.serving() as server:
-        until = time.monotonic() + span.seconds
-        clients = [Client(number, server, span, until) for number in range(CLIENTS)]
-        copier = Copier(office, span, until)
+        course = Course(span)
+        clients = [Client(number, server, course) for number in range(CLIENTS)]
+        copier = Copier(office, course)
         for thread in [*clients, copier]:
             thread.start()
-        time.sleep(span.seconds)
+        while not course.is_over():
+            time.sleep(0.05)
         assert server.child.poll() is None, f"the program ended with {server.child.poll()}"
     threads: list[Client | Copier] = [*clients, copier]
     for it in threads:
@@ -359,9 +380,9 @@ def made_anew(office: Office, room: Path, span: Span) -> None:
 
 def run(report: Report) -> None:
     now = minute_now()
-    span = Span(now - 40_000, now, 600.0 if report.whole else 30.0)
+    span = Span(now - 40_000, now, 600.0, 10_000_000) if report.whole else Span(now - 40_000, now, 30.0, ENOUGH)
     office = Office(report.program, report.folder("office"), span.origin)
-    with report.case(f"{span.seconds:.0f} s of {CLIENTS} clients"):
+    with report.case(f"{CLIENTS} clients at random"):
         found = soak(office, span)
         refused = [it for client in found.clients for it in client.refused if "not_found" not in it]
         assert not refused, f"{len(refused)} answers that nobody asked for, as {refused[0]}"

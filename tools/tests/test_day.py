@@ -269,7 +269,7 @@ class Day(unittest.TestCase):
     def the_page_is_fresh(self) -> None:
         with urllib.request.urlopen(f"{self.page.address}/page/overview.json", timeout=5) as told:
             overview = json.load(told)
-        self.assertLess(abs(overview["written"] - time.time()), 2 * ROUND)
+        self.assertLessEqual(abs(overview["written"] - time.time() // 60), 2)
         for office in overview["offices"]:
             self.assertIsNone(office["fault"], office["name"])
             slos = [each["name"] for each in office["slos"]]

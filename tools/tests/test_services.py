@@ -43,6 +43,16 @@ COMMANDS = {
     f" systemctl is-active {ALL} | xargs",
     "leisure": "sudo rm -r /etc/systemd/system/s*.service.d; sudo systemctl daemon-reload;"
     f" sudo systemctl restart {ALL}; sleep 5",
+    # A clock that can't be compared with the receiver's for ten rounds, and then can again.
+    "mute": "sudo systemctl stop prometheus-alertmanager; sudo sed -i '1i every = 1' /etc/slo-notify.toml;"
+    " sudo sed -i 's/sleep 300/sleep 10/' /usr/lib/systemd/system/slo-notify-again.service;"
+    " sudo systemctl daemon-reload; sudo systemctl restart slo-notify;"
+    " for n in $(seq 60); do systemctl is-failed --quiet slo-notify && break; sleep 0.5; done;"
+    " systemctl show --property=ActiveState,ExecMainStatus --value slo-notify | xargs",
+    "heard": "sudo systemctl start prometheus-alertmanager;"
+    " for n in $(seq 60); do systemctl is-active --quiet slo-notify && break; sleep 0.5; done;"
+    " systemctl is-active slo-notify; sudo sed -i '/^every/d' /etc/slo-notify.toml;"
+    f" sudo systemctl restart {ALL}; sleep 5",
     "origin": "sudo head -c 13 /var/lib/private/slo_office/office.journal | tail -c 4 | od -An -tu1;"
     " cat /etc/default/slo_office",
     "kill": f"sudo systemctl kill --signal=KILL {ALL}; sleep 15; {STATES}",
@@ -95,6 +105,9 @@ class ServicesTest(unittest.TestCase):
         self.assertTrue(said["kill"].text.endswith("1 active 1 active 1 active\n"), log)
         self.assertGreaterEqual(self.budget(said["kept"].text)["den"], before["den"])
         self.assertTrue(said["often"].text.endswith("active active active\n"), log)
+        # One that can't page is seen to have failed, and comes back by itself.
+        self.assertEqual(said["mute"].text, "3 failed\n", log)
+        self.assertEqual(said["heard"].text, "active\n", log)
         self.assertEqual(*self.origins(said["origin"].text))
         # Without the package they are ended; the journal stays, and outlives a purge.
         self.assertTrue(said["remove"].text.endswith("inactive inactive inactive\n"), log)
