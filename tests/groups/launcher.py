@@ -59,7 +59,7 @@ def refuses(checkout: Checkout, line: bytes) -> None:
 
 OTHERS = b"these sources aren't those that release/ was made of"
 # Some file systems tell moments in steps, so what was changed just now is summed up again.
-SETTLED = 10
+SETTLED = 60
 # What a call may take of the processor without a sum: it looks at 2,600 files, and reads none.
 LOOK = 0.15
 

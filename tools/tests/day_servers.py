@@ -19,6 +19,9 @@ from engines import ClickHouseServer, Exporter, PrometheusServer
 from notify_support import LIBRARY
 from support import TOOLS, Child, OfficeServer, answers, current_rows, free_port, needed, until
 
+from slo_tools.office import Office
+from slo_tools.refusals import OfficeError
+
 # Events of a service in a second, and those of a burst: a burst is a fifth of an hour's events.
 RATE = 10
 BURST = 13 * 60 * RATE
@@ -231,12 +234,17 @@ class SmallDisk:
         words = ["mount", "-t", "tmpfs", "-o", "size=4m", "tmpfs", str(self.folder)]
         subprocess.run(words, check=True)
 
-    def fill(self) -> None:
+    def fill(self, office: Office) -> None:
+        """Nothing is left for an office, not even in the block in which its journal ends."""
         with suppress(OSError), (self.folder / "filler").open("wb", buffering=0) as filler:
-            for size in (65536, 4096, 1):
-                with suppress(OSError):
-                    while filler.write(bytes(size)):
-                        pass
+            while filler.write(bytes(65536)):
+                pass
+        for _ in range(1000):
+            try:
+                office.tick()
+            except OfficeError:
+                return
+        raise AssertionError("a full disk has room")
 
     def free(self) -> None:
         (self.folder / "filler").unlink()

@@ -242,6 +242,9 @@ class Day(unittest.TestCase):
         self.watching.start()
         self.addCleanup(self.watching.over.set)
 
+    def full(self) -> None:
+        self.disk.fill(self.offices["depot"].server.client(tries=1))
+
     def row(self, office: str, indicator: str, minute: int) -> Callable[[], float]:
         """When the row of a minute of the day was there."""
         cell = (office, indicator, self.minute + minute)
@@ -303,7 +306,7 @@ class ShortDay(Day):
             Act(70, "reset", self.exporter.reset),
             Act(100, "shop killed", shop.kill),
             Act(110, "shop back", shop.start),
-            Act(58, "full", self.disk.fill),
+            Act(58, "full", self.full),
             Act(95, "room", self.disk.free),
         ]
         wanted = [
@@ -342,7 +345,7 @@ class WholeDay(Day):
             Act(70, "web burst", self.traffic.burst),
             Act(130, "bank burst", lambda: self.traffic.pay(BURST, 500)),
             Act(150, "reset", self.exporter.reset),
-            Act(200, "full", self.disk.fill),
+            Act(200, "full", self.full),
             Act(350, "room", self.disk.free),
             Act(340, "shop killed", shop.kill),
             Act(460, "shop back", shop.start),
@@ -374,7 +377,7 @@ class WholeDay(Day):
             # The newest row is that of minute 7.
             Wanted("bank SloDataStale", "firing", lambda: self.begin + 60 * (8 + STALE), late),
             Wanted("bank SloDataStale", "resolved", self.row("bank", "payments", 11)),
-            Wanted("depot SloOfficeClock", "firing", behind("clock ahead", AWAY), late),
+            Wanted("depot SloOfficeClock", "firing", behind("clock ahead"), late),
             Wanted("depot SloOfficeClock", "resolved", behind("clock right"), late),
         ]
 
