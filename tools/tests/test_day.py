@@ -53,7 +53,7 @@ SLO = """---
 apiVersion: openslo/v1
 kind: SLO
 metadata:
-  name: {name}
+  name: {name}{annotations}
 spec:
   service: day
   indicatorRef: {indicator}
@@ -99,14 +99,23 @@ spec:
 """
 # No burn reaches this: an alert of it would be a wrong word.
 NEVER = QUICK.replace("quick", "never").replace("14.4", "1000")
+# Nobody buys at night: that no row comes is no fault.
+QUIET_NIGHT = "\n  annotations:\n    slo-office/stale: 8h"
 SLICES = "\n    timeSliceTarget: 0.9\n    timeSliceWindow: 5m"
 
 
-def slo(name: str, indicator: str, policies: list[str], slices: bool = False) -> str:
+def slo(
+    name: str,
+    indicator: str,
+    policies: list[str],
+    slices: bool = False,
+    annotations: str = "",
+) -> str:
     method = "Timeslices" if slices else "Occurrences"
     text = SLO.format(
         name=name,
         indicator=indicator,
+        annotations=annotations,
         method=method,
         target="0.995" if slices else "0.99",
         slices=SLICES if slices else "",
@@ -188,19 +197,22 @@ class Day(unittest.TestCase):
         details = {"table": "events", "time": "at", "inserted": "came", "source": "host"}
         place = {"host": "127.0.0.1", "port": self.bank.port}
         source = data_source("events", "ClickHouse", **details, **place)
-        good, total = "service = ''payments'' AND status < 500", "service = ''payments''"
-        return source + sli("payments", "events", good, total) + SERVICE
+        for name in ("payments", "night"):
+            events = f"service = ''{name}''"
+            source += sli(name, "events", f"{events} AND status < 500", events)
+        return source + SERVICE
 
-    def office(self, name: str, objects: str, indicator: str, clock: bool = False) -> None:
-        """An office with a history, and its feed."""
+    def office(self, name: str, objects: str, *indicators: str, clock: bool = False) -> None:
+        """An office with a history of some indicators, and its feed."""
         environment = moved_clock(self.clock, 0) if clock else None
         server = OfficeServer(self.folder / name, self.origin, environment=environment).start()
         self.addCleanup(server.kill)
         client = server.client()
         client.define(objects.encode())
         last = int(time.time()) // 60 - 2
-        rows = [f"{indicator},past,{last - n},1,600,600\n" for n in range(HISTORY)]
-        client.ask("POST", ["samples"], body="".join(rows).encode())
+        for indicator in indicators:
+            rows = [f"{indicator},past,{last - n},1,600,600\n" for n in range(HISTORY)]
+            client.ask("POST", ["samples"], body="".join(rows).encode())
         feed = Tool("slo-feed", self.folder / f"{name}-feed", ("--config", "feed.toml"))
         feed.folder.mkdir()
         (feed.folder / "password").write_text("counts\n")
@@ -213,7 +225,7 @@ class Day(unittest.TestCase):
         feed.start()
         self.offices[name] = FedOffice(name, server, feed)
 
-    def watch(self) -> None:
+    def watch(self, more: str = "") -> None:
         """Alertmanager, slo-notify, the page, and the eye on the journals."""
         manager = PagingManager(self.folder / "manager", self.pager.address)
         self.addCleanup(manager.kill)
@@ -224,7 +236,7 @@ class Day(unittest.TestCase):
         self.page.start()
         text = (
             f'state = "state.json"\noverview = "{self.page.folder}/page/overview.json"\n'
-            f'clock = "receiver"\nstale = {STALE}\naway = {AWAY}\ntimeout = 5\n'
+            f'clock = "receiver"\nstale = {STALE}\naway = {AWAY}\ntimeout = 5\n{more}'
         )
         for name, address in addresses.items():
             text += (
@@ -236,6 +248,7 @@ class Day(unittest.TestCase):
             f'{text}[alertmanager]\naddress = "{manager.address}"\n'
         )
         self.addCleanup(self.notify.kill)
+        self.watched = time.time()
         self.notify.start()
         journals = {n: each.server.folder / "office.journal" for n, each in self.offices.items()}
         self.watching = Watching(journals)
@@ -329,10 +342,11 @@ class WholeDay(Day):
         slices = slo("slices", "web", ["workbook-page"], slices=True)
         self.office("shop", self.web_objects() + shop + slices, "web")
         bank = slo("transfers", "payments", ["workbook-page"])
-        self.office("bank", self.bank_objects() + bank, "payments")
+        night = slo("night-orders", "night", ["workbook-page"], annotations=QUIET_NIGHT)
+        self.office("bank", self.bank_objects() + bank + night, "payments", "night")
         depot = slo("parcels", "web", ["never"])
         self.office("depot", self.web_objects() + NEVER + depot, "web", clock=True)
-        self.watch()
+        self.watch("watchdog = true\n")
         self.begin_at(5)
         self.live(self.acts(), self.wanted(), 860)
         for office, indicator in (("shop", "web"), ("bank", "payments"), ("depot", "web")):
@@ -362,6 +376,7 @@ class WholeDay(Day):
         shop, bank = "shop checkout", "bank transfers workbook-page"
         late = SOON + ROUND
         return [
+            Wanted("Watchdog", "firing", lambda: self.watched),
             Wanted(f"{shop} workbook-page", "firing", self.row("shop", "web", 1)),
             Wanted(f"{shop} workbook-page", "resolved", self.row("shop", "web", 6)),
             Wanted(f"{shop} workbook-ticket", "firing", self.row("shop", "web", 1)),
