@@ -22,6 +22,7 @@ from slo_tools.notify.metrics import Metrics
 from slo_tools.notify.receiver import receiver_of
 from slo_tools.notify.rounds import Rounds
 from slo_tools.notify.state import read_state
+from slo_tools.notify.wording import rule_of, target_text
 
 # How many answers of an office are spoilt or passed on; the long form has 100000.
 ANSWERS = int(os.environ.get("SLO_NOTIFY_ANSWERS", "2000"))
@@ -132,6 +133,15 @@ class Answers(Several):
         self.assertEqual(
             [each["name"] for each in self.overview()["offices"][0]["slos"]], ["answers"]
         )
+
+    def test_numbers_of_endless_digits_are_none(self) -> None:
+        # Reading the first of these as a number would take hours, in which nothing else runs.
+        for text in ("1E+99999999", "1e9999999", "9" * 5000, "-1", "1/0", "nan", ""):
+            rule = {"condition": {"lookbackWindow": "1h", "threshold": text}}
+            with self.subTest(text=text[:20]):
+                self.assertIsNone(rule_of(rule))
+                self.assertEqual(target_text(text), text)
+        self.assertEqual(target_text("0.999"), "99.9%")
 
     def test_an_office_that_is_slow_at_each_answer_ends_with_its_time(self) -> None:
         mutator = Mutator(self.burning_office("slow").port, SEED)

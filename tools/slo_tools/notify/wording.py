@@ -16,6 +16,8 @@ from slo_tools.spelling import budget_text, minutes_of_duration
 
 # Annotations with this front are meant for the tools, not for people.
 OWN_FRONT = "slo-office/"
+# As the objects write numbers (docs/objects.md).
+_NUMBER = re.compile(r"\d{1,30}(\.\d{1,30})?", re.ASCII)
 # A state that no alert has: the objective isn't watched by the policy any more.
 GONE = "gone"
 _STANDS = {"gt": "above", "gte": "from", "lt": "below", "lte": "up to"}
@@ -49,9 +51,8 @@ def rule_of(condition: Mapping[str, Any]) -> Optional[Rule]:
     """The rule of an AlertCondition's `spec`; None where it has another form."""
     members = map_of(condition.get("condition"))
     window = minutes_of_duration(str(members.get("lookbackWindow", "")))
-    try:
-        threshold = Fraction(str(members.get("threshold", "")))
-    except (ValueError, ZeroDivisionError):
+    threshold = _number_of(str(members.get("threshold", "")))
+    if threshold is None:
         return None
     return None if window is None else Rule((window,), str(members.get("op", "gte")), threshold)
 
@@ -171,14 +172,20 @@ def short_percent(part: Fraction) -> str:
     return f"{tenths // 10}%" if tenths % 10 == 0 else f"{tenths // 10}.{tenths % 10}%"
 
 
+def _number_of(text: str) -> Optional[Fraction]:
+    """A number as objects have it; None for another text, as one with an exponent, which may stand
+    for more digits than there is time to write."""
+    return Fraction(text) if _NUMBER.fullmatch(text) is not None else None
+
+
 def target_text(target: str) -> str:
     """A target in percent, as `99.9%` of `0.999`."""
     if target.endswith("%"):
         return target
-    try:
-        percent = Fraction(target) * 100
-    except (ValueError, ZeroDivisionError):
+    part = _number_of(target)
+    if part is None:
         return target
+    percent = part * 100
     text = f"{float(percent):.10f}".rstrip("0").rstrip(".")
     return f"{text}%" if Fraction(text) == percent else target
 
