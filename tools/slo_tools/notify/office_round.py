@@ -85,7 +85,7 @@ class OfficeRound:
             self.fault, self.state.away_since = None, None
         except OfficeError as fault:
             self.fault = str(fault)
-        except Exception as fault:  # pylint: disable=broad-except
+        except Exception as fault:
             self.around.metrics.faults.labels(self.config.name).inc()
             self.fault = odd(fault)
         if self.fault is not None:
@@ -97,7 +97,7 @@ class OfficeRound:
         """Does what may be odd too, behind a fault that is told already."""
         try:
             what(*words)
-        except Exception as fault:  # pylint: disable=broad-except
+        except Exception as fault:
             self.around.metrics.faults.labels(self.config.name).inc()
             self.fault = odd(fault)
 
