@@ -26,6 +26,10 @@ class Login:
     token: Optional[str] = None
     verify: Union[bool, str] = True
 
+    @property
+    def has_secret(self) -> bool:
+        return self.credentials is not None or self.token is not None
+
 
 class Table:
     """A table of the file that knows which of its keys were read."""
@@ -75,6 +79,13 @@ class Table:
         except ValueError as fault:
             raise self.fault(key, str(fault)) from None
         return text
+
+    def word(self, key: str) -> str:
+        """A text, or a number or a truth as its text."""
+        value = self._values.get(key)
+        if isinstance(value, (bool, int)):
+            self._values[key] = str(value).lower()
+        return self.wanted(key)
 
     def file(self, key: str, folder: Path) -> Optional[Path]:
         """A path, from the folder of the configuration."""

@@ -2,15 +2,18 @@
 
 from __future__ import annotations
 
+import contextlib
+import json
 import logging
 import subprocess
 import threading
 import time
-from collections.abc import Iterable, Mapping
+import urllib.parse
+from collections.abc import Iterable, Mapping, Sequence
 from dataclasses import dataclass, field
 from http.server import BaseHTTPRequestHandler, ThreadingHTTPServer
 from pathlib import Path
-from typing import Any, Optional
+from typing import Any, Optional, Union
 
 from support import TOOLS, Child, answers, free_port, needed, until
 
@@ -89,8 +92,10 @@ CLICKHOUSE_FILE = """<yandex>
   <users_config>{folder}/users.xml</users_config>
   <default_profile>default</default_profile><default_database>default</default_database>
   <timezone>UTC</timezone>
+  <remote_servers><both>{shards}</both></remote_servers>
 </yandex>
 """
+SHARD = """<shard><replica><host>127.0.0.1</host><port>{port}</port></replica></shard>"""
 CLICKHOUSE_USERS = """<yandex>
   <profiles><default><max_threads>2</max_threads></default>
     <readonly><readonly>1</readonly><max_threads>2</max_threads></readonly></profiles>
@@ -107,17 +112,20 @@ CLICKHOUSE_USERS = """<yandex>
 
 @dataclass
 class ClickHouseServer(Child):
-    """A ClickHouse with a user `feed` that may only read."""
+    """A ClickHouse with a user `feed` that may only read; with the servers at other ports it is a
+    cluster `both`."""
 
     folder: Path
     port: int = field(default_factory=free_port)
+    others: Sequence[int] = ()
 
     def start(self) -> ClickHouseServer:
         for name in ("data", "tmp", "files", "schemas"):
             (self.folder / name).mkdir(parents=True, exist_ok=True)
         file = self.folder / "config.xml"
         ports = {"port": self.port, "http": free_port(), "between": free_port()}
-        file.write_text(CLICKHOUSE_FILE.format(folder=self.folder, **ports))
+        shards = "".join(SHARD.format(port=port) for port in (self.port, *self.others))
+        file.write_text(CLICKHOUSE_FILE.format(folder=self.folder, shards=shards, **ports))
         (self.folder / "users.xml").write_text(CLICKHOUSE_USERS)
         server = needed("clickhouse-server")
         self._start([server, f"--config-file={file}"], self.folder, self.folder / "log")
@@ -203,6 +211,86 @@ class Exporter:
             self._server.shutdown()
             self._server.server_close()
             self._server = None
+
+
+Chunks = Union[bytes, Iterable[bytes]]
+
+
+@dataclass
+class FakePrometheus:
+    """What speaks as a Prometheus does, and as a test wants: `odd` are the contents of answers to
+    queries that name a word, in pieces as they are sent. Whatever else is asked rises by 10 each
+    20 seconds."""
+
+    odd: dict[str, tuple[int, Chunks]] = field(default_factory=dict)
+    port: int = field(default_factory=free_port)
+    asked: list[tuple[str, Optional[str]]] = field(default_factory=list)
+    _server: Optional[ThreadingHTTPServer] = None
+
+    @property
+    def url(self) -> str:
+        return f"http://127.0.0.1:{self.port}"
+
+    def start(self) -> FakePrometheus:
+        fake = self
+
+        class Answering(BaseHTTPRequestHandler):
+            protocol_version = "HTTP/1.1"
+
+            def do_GET(self) -> None:
+                self.do_POST()
+
+            def do_POST(self) -> None:
+                text = self.rfile.read(int(self.headers.get("Content-Length", "0"))).decode()
+                keys = {k: v[0] for k, v in urllib.parse.parse_qs(text).items()}
+                fake.asked.append((keys.get("query", ""), self.headers.get("Authorization")))
+                status, content = fake.answer(keys)
+                self.send_response(status)
+                if isinstance(content, bytes):
+                    self.send_header("Content-Length", str(len(content)))
+                    content = [content]
+                else:
+                    self.send_header("Transfer-Encoding", "chunked")
+                    content = (b"%x\r\n%b\r\n" % (len(piece), piece) for piece in content)
+                self.end_headers()
+                with contextlib.suppress(OSError):
+                    for piece in content:
+                        self.wfile.write(piece)
+                self.close_connection = True
+
+            def log_message(self, *_: object) -> None:
+                pass
+
+        self._server = ThreadingHTTPServer(("127.0.0.1", self.port), Answering)
+        threading.Thread(target=self._server.serve_forever, daemon=True).start()
+        return self
+
+    def answer(self, keys: Mapping[str, str]) -> tuple[int, Chunks]:
+        query = keys.get("query", "")
+        for word, answer in self.odd.items():
+            if word in query:
+                return answer
+        if query == "time()":
+            return 200, success("scalar", [time.time(), str(time.time())])
+        if "query" not in keys:
+            return 200, json.dumps({"status": "success", "data": {"activeTargets": []}}).encode()
+        end = float(keys.get("time", "0"))
+        first = int((end - 7200) // 20 + 1)
+        samples = [[n * 20, str(n * 10)] for n in range(first, int(end // 20) + 1)]
+        metric = {"__name__": "good", "job": "web", "instance": "web:1"}
+        return 200, success("matrix", [{"metric": metric, "values": samples}])
+
+    def stop(self) -> None:
+        if self._server is not None:
+            self._server.shutdown()
+            self._server.server_close()
+            self._server = None
+
+
+def success(kind: str, result: object) -> bytes:
+    """An answer of Prometheus that found something."""
+    data = {"resultType": kind, "result": result}
+    return json.dumps({"status": "success", "data": data}).encode()
 
 
 def feed(

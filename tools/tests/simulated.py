@@ -9,7 +9,7 @@ from typing import Optional
 
 from slo_tools.answers import Batch, Budgets, KeptRow, ObjectName, SampleRow
 from slo_tools.apply.profile import written
-from slo_tools.feed.prometheus import Values
+from slo_tools.feed.prometheus_client import Values
 from slo_tools.refusals import Conflict, Members, NoAnswer, NotFound, Unprocessable
 from slo_tools.yaml_reading import read_yaml
 

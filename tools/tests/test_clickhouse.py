@@ -15,9 +15,9 @@ from pathlib import Path
 from typing import Any, Optional
 
 from engines import ClickHouseServer, PrometheusServer, config_file, data_source, feed, sli
-from support import OfficeServer, differences
+from support import OfficeServer, differences, free_port
 
-from slo_tools.feed.clickhouse import ClickHouse, Table, merged
+from slo_tools.feed.clickhouse import ClickHouse, Table
 from slo_tools.feed.engine import Form, Indicator
 
 TABLE = """
@@ -93,7 +93,51 @@ def plainly(held: list[Event], closed: int) -> Rows:
     rows = {cell: f"{part},{total}" for cell, (part, total) in counts.items()}
     for cell, seconds in waits.items():
         rows[cell] = format(Decimal(str(max(seconds))).normalize(), "f")
+    rows.update(quiet(rows, closed))
     return {cell: row for cell, row in rows.items() if cell[2] < closed}
+
+
+def quiet(rows: Rows, closed: int) -> Rows:
+    """Rows 0/0 of the minutes without an event: of each source with a row in the ten before."""
+    found: Rows = {}
+    busy = {minute for name, _, minute in rows if name == "shop"}
+    for minute in range(min(busy) + 1, closed):
+        if minute not in busy:
+            hosts = {h for n, h, m in [*rows, *found] if n == "shop" and 0 < minute - m <= 10}
+            found.update((("shop", host, minute), "0,0") for host in hosts)
+    return found
+
+
+def value(source: str, name: str, query: str) -> str:
+    """An SLI of a value of all events."""
+    return f"""---
+apiVersion: openslo/v1
+kind: SLI
+metadata:
+  name: {name}
+spec:
+  thresholdMetric:
+    metricSource:
+      metricSourceRef: {source}
+      spec:
+        query: '{query}'
+"""
+
+
+class Measuring:
+    """A client that says how many rows of the table each query read."""
+
+    def __init__(self, port: int) -> None:
+        from clickhouse_driver import Client
+
+        self.client = Client("127.0.0.1", port=port)
+        self.read: dict[str, int] = {}
+
+    def rows(self, query: str) -> list[tuple[Any, ...]]:
+        answer: list[tuple[Any, ...]] = self.client.execute(query)
+        if "now()" not in query:
+            self.read[query] = self.client.last_query.progress.rows
+        return answer
 
 
 def objects(port: int) -> bytes:
@@ -106,6 +150,8 @@ def objects(port: int) -> bytes:
 
 SETTINGS = """first = 300
 [engine.events]
+host = "127.0.0.1"
+port = {port}
 user = "feed"
 password_file = "password"
 wait = 1
@@ -126,7 +172,8 @@ class ClickHouseTest(unittest.TestCase):
         self.server = OfficeServer(self.folder / "office", self.start - 10)
         self.addCleanup(self.server.kill)
         self.server.start().client().define(objects(self.clickhouse.port))
-        self.config = config_file(self.folder / "feed", self.server.address, SETTINGS)
+        self.settings = SETTINGS.format(port=self.clickhouse.port)
+        self.config = config_file(self.folder / "feed", self.server.address, self.settings)
         (self.folder / "feed" / "password").write_text("counts\n")
         self.held = events(self.start, self.now - 2, 20_000, 1)
         insert(self.clickhouse, self.held)
@@ -144,7 +191,7 @@ class ClickHouseTest(unittest.TestCase):
 
     def test_rows_are_those_of_the_events(self) -> None:
         told = feed(self.config, "--check").stdout
-        self.assertIn("fives: counters of events all as everyone, a row every 5 min", told)
+        self.assertIn("fives: counters of events, a row each 5 minutes, summed as everyone: ", told)
         feed(self.config, "--from", str(self.start))
         self.check_rows(self.server)
 
@@ -162,6 +209,138 @@ class ClickHouseTest(unittest.TestCase):
         (self.folder / "feed" / "state.json").unlink()
         self.add(events(self.start, self.now - 5, 100, 5))
         feed(self.config, "--from", str(self.start))
+        self.check_rows(self.server)
+
+    def test_values_that_are_none_stop_no_other(self) -> None:
+        """A column that may be null, an aggregate that is a text, or one without an end."""
+        self.clickhouse.run(
+            "CREATE VIEW sized AS SELECT *, nullIf(seconds, seconds) size FROM events"
+        )
+        values = "".join(
+            value("sized", name, query)
+            for name, query in (
+                ("average", "avg(size)"),
+                ("text", "any(service)"),
+                ("list", "groupArray(status)"),
+                ("endless", "max(seconds) / 0"),
+                ("late", "max(at)"),
+            )
+        )
+        source = data_source(
+            "sized",
+            "ClickHouse",
+            host="127.0.0.1",
+            port=self.clickhouse.port,
+            table="sized",
+            time="at",
+        )
+        self.server.client().define((source + values).encode())
+        more = (
+            '[engine.sized]\nhost = "127.0.0.1"\nport = %d\nuser = "feed"\n' % self.clickhouse.port
+        )
+        config = config_file(
+            self.folder / "feed",
+            self.server.address,
+            self.settings + more + 'password_file = "password"\n',
+        )
+        ended = feed(config, "--from", str(self.start), check=1)
+        self.assertNotIn("Traceback", ended.stderr)
+        for name, text in (("text", "(shop|desk)"), ("list", r"\[.*"), ("endless", "inf")):
+            line = rf"(?m)^slo-feed: {name}: all 20\S+Z: {text} is no number \(and \d+ more\)$"
+            self.assertRegex(ended.stderr, line)
+        self.assertLess(ended.stderr.count("\n"), 12)
+        self.assertNotIn("average:", ended.stderr)
+        odd = {cell[0] for cell in self.server.rows()} - set(NAMES)
+        self.assertEqual(odd, set())
+        self.check_rows(self.server)
+
+    def test_a_back_fill_says_how_far_it_is(self) -> None:
+        self.server.kill()
+        earlier = OfficeServer(self.folder / "earlier", self.now - 4 * 1440)
+        self.addCleanup(earlier.kill)
+        earlier.start().client().define(objects(self.clickhouse.port))
+        config = config_file(self.folder / "feed", earlier.address, self.settings)
+        ended = feed(config, "--from", str(self.now - 3 * 1440 - 10))
+        told = [line for line in ended.stderr.splitlines() if "sent up to" in line]
+        self.assertEqual(len(told), 3, ended.stderr)
+        self.assertRegex(told[0], r"events: sent up to 20\S+Z, 1 of 3\.0 days")
+
+    def test_the_key_is_used(self) -> None:
+        """Of a table of many services that stand apart by its key, those that are asked for alone
+        are read: by the counts, and by the look for late events."""
+        self.clickhouse.run(TABLE.replace("events", "large"))
+        self.clickhouse.run(
+            "INSERT INTO large (at, came, host, service, status, seconds) SELECT "
+            f"toDateTime({self.start * 60} + number % {200 * 60}), "
+            f"toDateTime({self.start * 60} + number % {200 * 60}), 'a', "
+            "concat('s', toString(number % 200)), 200, 1 FROM numbers(1000000)"
+        )
+        asked = {
+            Indicator(
+                f"i{n}",
+                "e",
+                Form.COUNTS,
+                f"service = 's{n}' AND status < 500",
+                f"service = 's{n}'",
+                None,
+                "all",
+                1,
+                5,
+                60,
+            ): (self.start, self.start + 200)
+            for n in (3, 120)
+        }
+        client = Measuring(self.clickhouse.port)
+        answer = ClickHouse(client, Table("large", "at", "came")).read(asked, self.start * 60.0)
+        totals = {
+            sli: sum(amount.total or 0 for amount in r.amounts.values())
+            for sli, r in answer.readings.items()
+        }
+        self.assertEqual(totals, {"i3": 5000, "i120": 5000})
+        self.assertEqual(len(client.read), 2)
+        for rows in client.read.values():
+            self.assertLess(rows, 150_000)
+
+    def test_several_hosts_in_turn(self) -> None:
+        """The first one is away, and the one that answered goes away too."""
+        second = ClickHouseServer(self.folder / "second")
+        self.addCleanup(second.kill)
+        second.start().run(TABLE)
+        insert(second, self.held)
+        hosts = (
+            f"127.0.0.1:{free_port()}, 127.0.0.1:{self.clickhouse.port}, 127.0.0.1:{second.port}"
+        )
+        settings = self.settings.replace('host = "127.0.0.1"', f'host = "{hosts}"')
+        config = config_file(self.folder / "feed", self.server.address, settings)
+        feed(config, "--once")
+        self.clickhouse.kill()
+        feed(config, "--from", str(self.start))
+        self.check_rows(self.server)
+        second.kill()
+        ended = feed(config, "--once", check=4)
+        self.assertEqual(ended.stderr.count("Connection refused"), 3)
+
+    def test_a_distributed_table(self) -> None:
+        other = ClickHouseServer(self.folder / "other")
+        self.addCleanup(other.kill)
+        self.clickhouse.kill()
+        self.clickhouse.others = (other.port,)
+        other.start().run(TABLE)
+        self.clickhouse.start()
+        self.clickhouse.run(
+            f"CREATE TABLE wide AS events ENGINE = Distributed(both, default, events)"
+        )
+        more = events(self.start, self.now - 2, 5_000, 11)
+        insert(other, more)
+        self.held += more
+        settings = self.settings.replace("wait = 1", 'wait = 1\ntable = "wide"')
+        config = config_file(self.folder / "feed", self.server.address, settings)
+        feed(config, "--from", str(self.start))
+        self.check_rows(self.server)
+        late = events(self.start, self.start + 30, 40, 12)
+        insert(other, late)
+        self.held += late
+        feed(config, "--once")
         self.check_rows(self.server)
 
     def test_a_condition_that_cant_be_run_stops_no_other(self) -> None:
@@ -197,7 +376,7 @@ class ClickHouseTest(unittest.TestCase):
             "counted", "prom", 'requests_total{code="500"}', "requests_total", word="bad"
         )
         self.server.client().define(counters.encode())
-        no_events = "[indicator.shop]\nskip = true\n[indicator.slow]\nskip = true\n"
+        no_events = '[indicators]\nlabel = "instance"\n[indicator.shop]\nskip = true\n[indicator.slow]\nskip = true\n'
         second = config_file(
             self.folder / "second",
             self.server.address,
@@ -206,7 +385,7 @@ class ClickHouseTest(unittest.TestCase):
         first = config_file(
             self.folder / "feed",
             self.server.address,
-            SETTINGS + "[indicator.counted]\nskip = true\n",
+            self.settings + "[indicator.counted]\nskip = true\n",
         )
         feeds = [
             threading.Thread(target=feed, args=(file, "--from", str(self.start)))
@@ -229,51 +408,6 @@ class ClickHouseTest(unittest.TestCase):
 
 
 NAMES = ("shop", "fives", "slow")
-
-
-class Asked:
-    """A ClickHouse that keeps the queries, and tells of late events at one minute."""
-
-    def __init__(self, late: int) -> None:
-        self.late = late
-        self.queries: list[str] = []
-
-    def rows(self, query: str) -> list[tuple[Any, ...]]:
-        self.queries.append(query)
-        if "DISTINCT" in query:
-            return [(self.late,)]
-        return [(10**6 * 60,)] if "now()" in query else []
-
-
-def indicator(name: str, every: int) -> Indicator:
-    return Indicator(name, "events", Form.COUNTS, "a", "b", None, "all", every, 5, 60)
-
-
-class QueriesTest(unittest.TestCase):
-    def read(self, asked: dict[Indicator, tuple[int, int]], mark: Optional[float]) -> list[str]:
-        client = Asked(late=5003)
-        table = Table("events", "at", "came")
-        self.answer = ClickHouse(client, table).read(asked, mark)
-        return [query for query in client.queries if "now()" not in query]
-
-    def test_one_query_counts_all_indicators_alike(self) -> None:
-        asked = {indicator("a", 1): (10, 20), indicator("b", 1): (12, 20)}
-        queries = self.read(asked, None)
-        self.assertEqual(len(queries), 1)
-        self.assertEqual(queries[0].count("countIf"), 4)
-        self.assertIn("at >= toDateTime(600) AND at < toDateTime(1200)", queries[0])
-        self.assertEqual(self.answer.mark, 10**6 * 60 - 120)
-
-    def test_late_events_of_a_stretch_that_isnt_due(self) -> None:
-        asked = {indicator("a", 1): (5996, 6006), indicator("b", 5): (6005, 6005)}
-        late, minutes, fives = self.read(asked, 77.0)
-        self.assertIn("came >= toDateTime(77)", late)
-        self.assertIn(f"at < toDateTime({6006 * 60})", late)
-        self.assertIn(f"at >= toDateTime({5003 * 60}) AND at < toDateTime({5004 * 60})", minutes)
-        self.assertIn(f"at >= toDateTime({5000 * 60}) AND at < toDateTime({5005 * 60})", fives)
-
-    def test_spans(self) -> None:
-        self.assertEqual(merged([(5, 9), (1, 3), (3, 4), (8, 10), (7, 7)]), [(1, 4), (5, 10)])
 
 
 if __name__ == "__main__":

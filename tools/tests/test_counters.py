@@ -10,10 +10,12 @@ from support import built_program
 
 from slo_tools.feed.counters import (
     Difference,
+    Hole,
     Reading,
     Rise,
     Series,
     difference,
+    holes,
     rises,
     rows_from_readings,
 )
@@ -34,6 +36,26 @@ def counters_are_built() -> bool:
     words = [program, "counters", "x"]
     ended = subprocess.run(words, stdin=subprocess.DEVNULL, capture_output=True)
     return ended.returncode == 0
+
+
+class HolesTest(unittest.TestCase):
+    def series(self, instance: str, *moments: int, code: str = "200") -> Series:
+        labels = frozenset({"job": "web", "instance": instance, "code": code}.items())
+        return Series(labels, [(moment * SECOND, 1) for moment in moments])
+
+    def test_a_target_that_wasnt_scraped(self) -> None:
+        quiet = self.series("a", 0, 20, 40, 101)
+        target = frozenset({"job": "web", "instance": "a"}.items())
+        self.assertEqual(holes([quiet], 60 * SECOND), [Hole(target, 40 * SECOND, 101 * SECOND)])
+        self.assertEqual(holes([quiet], 61 * SECOND), [])
+        # Another target goes on.
+        other = self.series("b", *range(0, 120, 20))
+        self.assertEqual(len(holes([other, quiet], 60 * SECOND)), 1)
+
+    def test_a_series_that_is_missing_alone_is_no_hole(self) -> None:
+        failures = self.series("a", 0, 100, code="500")
+        successes = self.series("a", *range(0, 120, 20))
+        self.assertEqual(holes([failures, successes], 60 * SECOND), [])
 
 
 class RuleTest(unittest.TestCase):

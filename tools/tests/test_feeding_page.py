@@ -56,7 +56,9 @@ class PageTest(unittest.TestCase):
     def judge(self, answers: list[str]) -> None:
         """What the page says of the commands behind the installation."""
         self.assertEqual(json.loads(answers[3]), {"applied": 4, "entry": 0})
-        self.assertIn("web-good: counters of prometheus by instance", answers[4])
+        self.assertIn(
+            "web-good: counters of prometheus, a row a minute, summed as all: ", answers[4]
+        )
         budget = json.loads(answers[7])["budgets"][0]
         self.assertGreater(budget["den"], 0)
         self.assertEqual(budget["num"], budget["den"])

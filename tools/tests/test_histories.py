@@ -123,7 +123,7 @@ class World:
         self.clock = HeldClock(BEGIN * 60.0)
         self.prometheus = SimulatedPrometheus(self.clock, samples)
         self.office = SimulatedOffice(self.clock, texts(), BEGIN - 100)
-        usual = IndicatorConfig(look_back=LOOK_BACK, gap=GAP)
+        usual = IndicatorConfig(label="instance", look_back=LOOK_BACK, gap=GAP)
         file = folder / "state.json"
         file.unlink(missing_ok=True)
         self.config = Config("", Login(), file, first=MINUTES + LOOK_BACK, usual=usual)

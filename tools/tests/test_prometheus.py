@@ -89,6 +89,9 @@ def objects(url: str) -> bytes:
 
 
 INDICATORS = """
+[indicators]
+label = "instance"
+every = 1
 [indicator.fives]
 every = 5
 [indicator.whole]
@@ -235,6 +238,27 @@ class HistoryTest(Real):
         held = {c: row for c, row in later.rows().items() if c[2] <= self.newest()}
         self.assertEqual(held, self.expected(self.now - 300, self.newest()))
 
+    def test_an_office_that_was_taken_back_and_has_as_many_entries_again(self) -> None:
+        """It is restored from a copy of before the rows came, and ticks until the counts are
+        even: what it has lost is sent again, in the same round."""
+        self.server.kill()
+        journal = self.server.folder / "office.journal"
+        copy = journal.read_bytes()
+        client = self.server.start().client()
+        feed(self.config, "--from", str(self.start))
+        self.check_rows()
+        entries, _ = client.objects()
+        self.server.kill()
+        journal.write_bytes(copy)
+        client = self.server.start().client()
+        while client.objects()[0] < entries:
+            client.tick()
+        ended = feed(self.config, "--once")
+        self.assertIn(
+            "the office was taken back to an older journal: it doesn't have", ended.stderr
+        )
+        self.check_rows()
+
     def test_a_query_that_cant_be_run_stops_no_other(self) -> None:
         broken = """---
 apiVersion: openslo/v1
@@ -268,13 +292,45 @@ spec:
         self.assertIn("set the clocks; nothing is sent", ended.stderr)
         self.assertEqual(self.server.rows(), {})
 
+    def test_check_sees_a_mistyped_metric(self) -> None:
+        typed = sli("typed", "prom", "sum(reqests_total)", "reqests_total")
+        self.server.client().define(typed.encode())
+        told = feed(self.config, "--check", check=1).stdout
+        self.assertIn("typed: no series in an hour: does its query name what is there?", told)
+        self.assertEqual(told.count("no series"), 1)
+
+    def test_a_folder_that_is_missing(self) -> None:
+        config = self.folder / "other.toml"
+        config.write_text(self.config.read_text().replace("feed/state", "nowhere/state"))
+        modes: list[list[str]] = [["--from", str(self.start)], ["--once"], []]
+        for words in modes:
+            ended = feed(config, *words, check=2)
+            self.assertIn(
+                "its folder isn't there: make it, or start slo-feed.service", ended.stderr
+            )
+            self.assertNotIn("make room", ended.stderr)
+        self.assertEqual(self.server.rows(), {})
+
+    def test_a_hole_longer_than_the_gap_is_told(self) -> None:
+        """In the history one target is away for up to 100 minutes."""
+        config = self.folder / "feed" / "holes.toml"
+        rest = self.config.read_text().replace('label = "instance"', 'label = "instance"\ngap = 2')
+        config.write_text(rest)
+        ended = feed(config, "--from", str(self.start))
+        told = [line for line in ended.stderr.splitlines() if "wasn't scraped from" in line]
+        self.assertGreater(len(told), 2)
+        self.assertIn("longer than gap = 2 min: what it counted meanwhile isn't known", told[0])
+        self.assertEqual(len(told), len(set(told)))
+
     def test_check_says_what_is_fed(self) -> None:
         rate = sli("guess", "prom", "rate(requests_total[1m])", "requests_total")
         away = sli("away", "nowhere", "a", "b").replace("        metricSourceRef: nowhere\n", "")
         self.server.client().define((rate + away).encode())
         told = feed(self.config, "--check", check=1).stdout
-        self.assertIn("shop: counters of prom by instance, a row every 1 min", told)
-        self.assertIn("whole: counters of prom all as everything, a row every 15 min", told)
+        self.assertIn("shop: counters of prom, a row a minute, by instance: ", told)
+        self.assertIn(
+            "whole: counters of prom, a row each 15 minutes, summed as everything: ", told
+        )
         self.assertIn("guess: query: rate(..) is no counter", told)
         self.assertIn("away: not fed: its queries name no metricSourceRef", told)
 
@@ -313,7 +369,7 @@ class LiveTest(Real):
         self.config = config_file(
             self.folder / "feed",
             self.server.address,
-            f"metrics_port = {self.metrics}\n{INDICATORS}[engine.prom]\nwait = 0\n",
+            f"metrics_port = {self.metrics}\nspread = 0\n{INDICATORS}[engine.prom]\nwait = 0\n",
         )
         self.loop = FeedLoop(self.config)
         self.addCleanup(self.loop.kill)

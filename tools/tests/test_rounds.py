@@ -4,30 +4,39 @@ from __future__ import annotations
 
 import json
 import logging
+import os
+import subprocess
 import tempfile
 import unittest
 from collections.abc import Sequence
 from pathlib import Path
-from typing import Optional, cast
+from typing import Any, Optional, cast
 from unittest import mock
 
 from engines import data_source, sli
-from simulated import HeldClock, Sample, SimulatedOffice, SimulatedPrometheus
+from simulated import (
+    HeldClock,
+    Sample,
+    SimulatedOffice,
+    SimulatedPrometheus,
+    as_an_office_writes,
+)
 
-from slo_tools.answers import Batch, SampleRow
+from slo_tools.answers import Batch, KeptRow, SampleRow
 from slo_tools.feed.cells import Amount, Cell
 from slo_tools.feed.command import seconds_to_next
 from slo_tools.feed.config import Config, IndicatorConfig
 from slo_tools.feed.dues import due
 from slo_tools.feed.engine import Engine
+from slo_tools.feed.history import stands, with_newest
 from slo_tools.feed.prometheus import Prometheus
 from slo_tools.feed.revisions import Kept, Pending, pending
-from slo_tools.feed.rounds import End, Feed
+from slo_tools.feed.rounds import End, Feed, why_not_written
 from slo_tools.feed.sending import Sender
-from slo_tools.feed.state import State, read_state, write_state
+from slo_tools.feed.state import State, Way, Witness, read_state, write_state
 from slo_tools.feed.watch import Watch
 from slo_tools.office import Office
-from slo_tools.refusals import Full
+from slo_tools.refusals import Full, NotFound
 from slo_tools.settings import Login
 
 BEGIN = 29_000_000
@@ -60,7 +69,7 @@ class Rounds(unittest.TestCase):
             Login(),
             self.folder / "state.json",
             first=60,
-            usual=IndicatorConfig(every=every, look_back=5),
+            usual=IndicatorConfig(label="instance", every=every, look_back=5),
         )
         engine = cast(Engine, Prometheus(self.prometheus))
         office = cast(Office, self.office)
@@ -204,8 +213,76 @@ class Rounds(unittest.TestCase):
         self.office.kept, self.office.entries = {}, 1
         self.clock.seconds += 360
         self.feed.round()
-        self.assertIn("taken back to an older journal. Run slo-feed --from", self.lines())
+        said = "taken back to an older journal: it has 1 entries and had 2. All since 2025-02-19T20:50Z"
+        self.assertIn(said, self.lines())
         self.assertEqual(self.minutes(), list(range(36)))
+
+    def restored(self, copy: dict[tuple[str, str, int], tuple[int, str]], entries: int) -> None:
+        """The office goes on from a copy, and has so many entries by now."""
+        self.office.kept, self.office.entries = dict(copy), entries
+
+    def test_an_office_that_was_restored_and_ticked(self) -> None:
+        self.office.has_rows_query = True
+        self.feed.round()
+        copy = dict(self.office.kept)
+        for _ in range(6):
+            self.clock.seconds += 600
+            self.feed.round()
+        self.restored(copy, self.office.entries)
+        self.clock.seconds += 60
+        self.assertEqual(self.feed.round(), End.DONE)
+        self.assertIn("it doesn't have the row shop web_0 2025-02-19T22:49Z", self.lines())
+        self.assertIn("All since 2025-02-19T21:49Z is read again", self.lines())
+        self.assertEqual(self.minutes(), list(range(91)))
+        self.assertEqual(self.office.again, 0)
+
+    def test_an_office_that_cant_be_asked_for_rows_is_seen_by_its_entries(self) -> None:
+        self.feed.round()
+        copy, entries = dict(self.office.kept), self.office.entries
+        for _ in range(3):
+            self.clock.seconds += 60
+            self.feed.round()
+        # Fewer entries than the state knows, at a moment at which the objects aren't read again.
+        self.restored(copy, entries)
+        self.clock.seconds += 60
+        self.assertEqual(self.feed.round(), End.DONE)
+        self.assertIn("its newest entry is 2, and it had 5 already", self.lines())
+        self.assertEqual(self.minutes(), list(range(34)))
+
+    def test_a_row_that_somebody_corrected_is_no_other_history(self) -> None:
+        self.office.has_rows_query = True
+        self.feed.round()
+        cell = ("shop", "web_0", BEGIN + 29)
+        self.office.kept[cell] = (7, "1,1")
+        self.clock.seconds += 60
+        self.assertEqual(self.feed.round(), End.DONE)
+        self.assertNotIn("taken back", self.lines())
+
+    def test_a_new_office_gets_all_that_was_ever_read(self) -> None:
+        self.office.has_rows_query = True
+        self.feed.round()
+        for _ in range(4):
+            self.clock.seconds += 900
+            self.feed.round()
+        self.restored({}, self.office.entries + 9)
+        self.clock.seconds += 60
+        self.assertEqual(self.feed.round(), End.DONE)
+        self.assertEqual(self.minutes(), list(range(91)))
+
+    def test_witnesses_of_two_months_are_few(self) -> None:
+        witnesses: list[Witness] = []
+        for minute in range(BEGIN, BEGIN + 70 * 1440, 7):
+            cell = Cell("shop", "all", minute)
+            newest = Witness(minute, cell, Kept(1, Amount("1", 1)))
+            witnesses = with_newest(witnesses, newest)
+            self.assertEqual(witnesses[-1], newest)
+        self.assertLess(len(witnesses), 130)
+        ages = [newest.at - w.at for w in witnesses]
+        self.assertEqual(ages, sorted(ages, reverse=True))
+        steps = [a - b for a, b in zip(ages, ages[1:])]
+        self.assertLessEqual(max(steps), 1447)
+        self.assertLessEqual(max(s for a, s in zip(ages, steps) if a < 2800), 67)
+        self.assertGreater(ages[0], 60 * 1440)
 
     def test_a_state_file_that_cant_be_written(self) -> None:
         self.feed = self.made(State(), save=True)
@@ -218,8 +295,62 @@ class Rounds(unittest.TestCase):
             Sample(LABELS, (BEGIN + 5) * 60 + 30.0, 10**10, BEGIN * 60.0)
         )
         self.assertEqual(self.feed.round(), End.LEFT_OUT)
-        self.assertIn(f"shop: web_0 {BEGIN + 5}: more than 10^9 events", self.lines())
+        self.assertIn("shop: web_0 2025-02-19T21:25Z: more than 10^9 events", self.lines())
         self.assertNotIn(5, self.minutes())
+
+    def test_an_hour_without_scrapes_that_passed_while_it_ran_is_told(self) -> None:
+        """The first row behind it has nothing before it, so nobody knows what was counted."""
+        self.feed.round()
+        held = self.prometheus.samples_held
+        away = [s for s in held if not 30 <= (s.moment // 60 - BEGIN) < 95]
+        self.prometheus.samples_held = away
+        for _ in range(70):
+            self.clock.seconds += 60
+            self.feed.round()
+        # Read a second time the scrape before lies within what is asked for.
+        told = "shop: web:0 wasn't scraped from 2025-02-19T21:49Z to 2025-02-19T22:55Z, longer than"
+        self.assertEqual(self.lines().count(told), 1, self.lines())
+        self.assertEqual(self.lines().count("isn't known"), 1)
+
+    def test_four_hours_without_scrapes(self) -> None:
+        self.feed.round()
+        held = self.prometheus.samples_held
+        last = [Sample(s.labels, s.moment + 14400, s.value, s.shown + 14400) for s in held[-90:]]
+        self.prometheus.samples_held = held[:90] + last
+        for _ in range(400):
+            self.clock.seconds += 60
+            self.feed.round()
+        told = "shop: no rows from 2025-02-19T21:50Z to 2025-02-20T02:30Z, longer than gap = 60 min"
+        self.assertEqual(self.lines().count(told), 1, self.lines())
+        self.assertEqual(self.lines().count("isn't known"), 1)
+
+    def test_a_fault_of_its_own_ends_no_loop(self) -> None:
+        with mock.patch.object(self.office, "objects", side_effect=KeyError("entries")):
+            self.assertEqual(self.feed.round(), End.OFFICE)
+        self.assertIn("the round ended by a fault of slo-feed's own (KeyError: ", self.lines())
+        self.assertEqual(self.feed.round(), End.DONE)
+
+    def test_an_engine_that_breaks_stops_no_other(self) -> None:
+        texts = self.office.texts
+        texts["DataSource/a"] = data_source("a", "Prometheus", url="http://y")
+        texts["SLI/other"] = sli("other", "a", "m", "m")
+        engine, broken = self.feed.engine_of, mock.Mock()
+        broken.now.side_effect = ZeroDivisionError("x")
+        self.feed.engine_of = lambda s: broken if s.name == "a" else engine(s)
+        self.assertEqual(self.feed.round(), End.ENGINE)
+        self.assertIn("a gave no answer (ZeroDivisionError: x)", self.lines())
+        self.assertEqual(self.minutes(), list(range(30)))
+
+    def test_an_object_that_cant_be_read_stops_no_other(self) -> None:
+        self.office.texts["SLI/odd"] = "odd"
+        with mock.patch("simulated.as_an_office_writes", side_effect=lambda t: t):
+            texts = {
+                k: as_an_office_writes(t) for k, t in self.office.texts.items() if t and t != "odd"
+            }
+            self.office.texts = {**texts, "SLI/odd": "odd: ["}
+            self.assertEqual(self.feed.round(), End.LEFT_OUT)
+        self.assertIn("SLI odd isn't fed: its object can't be read", self.lines())
+        self.assertEqual(self.minutes(), list(range(30)))
 
     def test_a_line_that_holds_on_is_written_once(self) -> None:
         self.prometheus.clock = HeldClock(self.clock.seconds + 90)
@@ -229,6 +360,29 @@ class Rounds(unittest.TestCase):
         self.feed.round()
         self.assertEqual(self.lines().count("set the clocks"), 2)
         self.assertIn("over: the clock of prom", self.lines())
+
+
+class WitnessTest(unittest.TestCase):
+    """Whether the office has a row that it acknowledged with revision 3 and 1 of 2 events."""
+
+    def test_stands(self) -> None:
+        witness = Witness(BEGIN, Cell("shop", "all", BEGIN), Kept(3, Amount("1", 2)))
+        table: list[tuple[Optional[KeptRow], bool]] = [
+            (KeptRow(3, "1", 2), True),
+            (KeptRow(4, "9", 9), True),
+            (KeptRow(4, None, None), True),
+            (KeptRow(3, "2", 2), False),
+            (KeptRow(3, None, None), False),
+            (KeptRow(2, "1", 2), False),
+            (None, False),
+        ]
+        office = mock.Mock()
+        for row, answer in table:
+            with self.subTest(row=row):
+                office.row.return_value = row
+                self.assertIs(stands(cast(Office, office), witness), answer)
+        office.row.side_effect = NotFound(404, {"error": "not_found"})
+        self.assertIsNone(stands(cast(Office, office), witness))
 
 
 def pending_rows(count: int, revision: int = 1) -> list[Pending]:
@@ -350,11 +504,81 @@ class StateTest(unittest.TestCase):
         self.assertEqual(read_state(self.file), (state, None))
 
     def test_what_cant_be_used_is_as_nothing(self) -> None:
-        for text in ("", "{", "[]", '{"version":2}', '{"version":1}', "null", '"x"'):
-            self.file.write_text(text)
-            state, why = read_state(self.file)
-            self.assertEqual(state, State())
-            self.assertIsNotNone(why)
+        texts = ["", "{", "[]", '{"version":2}', '{"version":1}', "null", '"x"', "[" * 100_000]
+        texts += ["{" + '"a":{' * 100_000, "9" * 100_000, '{"version":[]}']
+        for text in texts:
+            with self.subTest(text[:20]):
+                self.file.write_text(text)
+                state, why = read_state(self.file)
+                self.assertEqual(state, State())
+                self.assertIsNotNone(why)
+
+    def test_each_part_of_another_form_is_damage(self) -> None:
+        write_state(self.file, self.whole())
+        told = json.loads(self.file.read_text())
+        odd: list[Any] = [None, [], "x", -1, 2**60, 1e300, float("nan"), float("inf"), True]
+        odd += [
+            {"x": None},
+            {"x": float("inf")},
+            {"x": {"y": {"z": 1}}},
+            {"x": [1, 2, 3]},
+            [[1, 2]],
+        ]
+        judged = 0
+        for key in told.keys() - {"version"}:
+            for value in odd:
+                self.file.write_text(json.dumps({**told, key: value}))
+                state, why = read_state(self.file)
+                if why is None:
+                    # What is taken can be written again, and a feed can go on with it.
+                    write_state(self.file, state)
+                    self.assertEqual(read_state(self.file), (state, None))
+                judged += why is not None
+        self.assertGreater(judged, 100)
+
+    def whole(self) -> State:
+        cell, kept = Cell("shop", "all", BEGIN), Kept(3, Amount("1", 2))
+        witness = Witness(BEGIN + 2, cell, kept, {"slow": BEGIN - 9})
+        return State(
+            kept={cell: kept},
+            through={"shop": BEGIN},
+            marks={"events": 99.5},
+            entries=7,
+            origin=3,
+            ways={"shop": Way("pod", "all", 5, 15)},
+            rows={"shop": BEGIN},
+            witnesses=[witness],
+            began=BEGIN - 60,
+        )
+
+    def test_all_of_it_both_ways(self) -> None:
+        write_state(self.file, self.whole())
+        self.assertEqual(read_state(self.file), (self.whole(), None))
+
+    def test_one_of_an_older_version(self) -> None:
+        told = {"version": 1, "cells": {"s": {"a": {"5": [2, "1", 3]}}}, "through": {"s": 5}}
+        told |= {"marks": {}, "entries": 4, "origin": None, "made": 2, "accepted": 3}
+        self.file.write_text(json.dumps(told))
+        state, why = read_state(self.file)
+        self.assertIsNone(why)
+        self.assertEqual(state.kept, {Cell("s", "a", 5): Kept(2, Amount("1", 3))})
+        self.assertEqual((state.ways, state.witnesses), ({}, []))
+
+    def test_a_full_disk(self) -> None:
+        """Over a file system of 64 KiB, as root; the old state stands."""
+        place = self.file.parent / "small"
+        place.mkdir()
+        words = ["mount", "-t", "tmpfs", "-o", "size=64k", "tmpfs", str(place)]
+        if os.geteuid() != 0 or subprocess.run(words, capture_output=True).returncode != 0:
+            self.skipTest("no file system can be mounted here")
+        self.addCleanup(lambda: subprocess.run(["umount", str(place)], check=True))
+        file = place / "state.json"
+        write_state(file, State(entries=5))
+        large = {Cell("s", "a", n): Kept(1, Amount("1", 1)) for n in range(9000)}
+        with self.assertRaises(OSError) as caught:
+            write_state(file, State(large))
+        self.assertEqual(why_not_written(caught.exception), "No space left on device: make room")
+        self.assertEqual(read_state(file)[0].entries, 5)
 
     def test_a_torn_new_file_is_no_harm(self) -> None:
         write_state(self.file, State(entries=5))

@@ -9,6 +9,7 @@ from decimal import Decimal
 from pathlib import Path
 
 from engines import data_source, sli
+from simulated import as_an_office_writes
 from support import TOOLS
 
 from slo_tools.clock import date_of, minute_of_date
@@ -17,11 +18,16 @@ from slo_tools.feed.config import Config, read_config
 from slo_tools.feed.engine import QueryFault
 from slo_tools.feed.objects import data_source as source_of
 from slo_tools.feed.objects import query_faults
-from slo_tools.feed.prometheus import NotWhole, minute_of_sample, whole
+from slo_tools.feed.numbers import NoNumber, number_of, shown, whole
+from slo_tools.feed.prometheus import minute_of_sample
 from slo_tools.feed.promql import fault_of, selectors
-from slo_tools.objects import read_document
+from slo_tools.objects import Document, read_document
 from slo_tools.office import is_label
 from slo_tools.settings import ConfigFault
+
+
+def document_of(text: str) -> Document:
+    return read_document(as_an_office_writes(text))
 
 
 class QueryTest(unittest.TestCase):
@@ -80,8 +86,8 @@ class QueryTest(unittest.TestCase):
 
     def test_the_queries_of_an_sli(self) -> None:
         for kind, refused in (("Prometheus", ["rate(..) is no counter; name"]), ("ClickHouse", [])):
-            source = source_of(read_document(data_source("here", kind, url="http://a")))
-            document = read_document(sli("shop", "here", "rate(a[1m])", "a"))
+            source = source_of(document_of(data_source("here", kind, url="http://a")))
+            document = document_of(sli("shop", "here", "rate(a[1m])", "a"))
             with self.subTest(kind):
                 told = query_faults(document, {"here": source})
                 self.assertEqual([why[:28] for why in told], refused)
@@ -122,7 +128,7 @@ class NamesTest(unittest.TestCase):
     def test_whole_numbers(self) -> None:
         self.assertEqual([whole(t) for t in ("7", "7.0", "1e+21")], [7, 7, 10**21])
         for text in ("7.5", "-1", "NaN", "+Inf", "x"):
-            with self.subTest(text), self.assertRaises(NotWhole):
+            with self.subTest(text), self.assertRaises(NoNumber):
                 whole(text)
 
 

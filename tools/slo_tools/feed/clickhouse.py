@@ -2,18 +2,31 @@
 
 from __future__ import annotations
 
-import logging
 from collections.abc import Iterable, Mapping, Sequence
-from dataclasses import dataclass, field
-from decimal import Decimal
+from dataclasses import dataclass
 from typing import Any, Optional, Protocol
 
 from slo_tools.clock import DAY, MINUTE
-from slo_tools.feed.cells import MOST_VALUE, Amount, Cell, amounts_of, source_name, summed
-from slo_tools.feed.engine import Answer, EngineError, Form, Indicator, QueryFault, Reading
+from slo_tools.feed.cells import stretch_minute
+from slo_tools.feed.engine import (
+    Answer,
+    EngineError,
+    Form,
+    Indicator,
+    OddAnswer,
+    QueryFault,
+    Reading,
+    TooLarge,
+)
+from slo_tools.feed.numbers import NoNumber, shown, whole
+from slo_tools.feed.rows import Count, put_counts, put_values
 
 Row = tuple[Any, ...]
 Span = tuple[int, int]
+
+
+# Stretches of time that one query names, so that its text stays within the server's limit.
+SPANS_AT_ONCE = 100
 
 
 class AsksClickHouse(Protocol):
@@ -21,60 +34,6 @@ class AsksClickHouse(Protocol):
 
     def rows(self, query: str) -> Sequence[Row]:
         """The rows of a query. Raises EngineError, or QueryFault where the query is to blame."""
-
-
-@dataclass
-class ClickHouseClient:
-    """The native protocol, by Debian's python3-clickhouse-driver."""
-
-    host: str
-    port: int
-    database: str
-    user: str = "default"
-    password: str = ""
-    secure: bool = False
-    verify: bool = True
-    timeout: float = 60.0
-    _client: Any = field(default=None, init=False, repr=False)
-
-    def rows(self, query: str) -> Sequence[Row]:
-        from clickhouse_driver import Client, errors
-
-        if self._client is None:
-            # It writes a traceback for each connection that fails; the fault is told once here.
-            logging.getLogger("clickhouse_driver").setLevel(logging.CRITICAL)
-            self._client = Client(
-                self.host,
-                port=self.port,
-                database=self.database,
-                user=self.user,
-                password=self.password,
-                secure=self.secure,
-                verify=self.verify,
-                connect_timeout=10,
-                send_receive_timeout=self.timeout,
-            )
-        try:
-            answer: Sequence[Row] = self._client.execute(query)
-        except (errors.Error, EOFError, OSError) as fault:
-            self._client.disconnect()
-            why = _first_line(fault)
-            if isinstance(fault, errors.ServerException) and fault.code in _QUERY_CODES:
-                raise QueryFault(why) from fault
-            raise EngineError(f"{self.host}:{self.port}: {why}") from fault
-        return answer
-
-
-# Of ClickHouse's ErrorCodes: arguments and types, unknown functions, columns and tables, syntax.
-_QUERY_CODES = frozenset({6, 42, 43, 46, 47, 53, 60, 62, 63, 70, 184, 386})
-
-
-def _first_line(fault: Exception) -> str:
-    """What a fault says, without the stack of the server."""
-    for line in str(fault).strip().splitlines():
-        if line not in ("Stack trace:", "") and not line.startswith("Code:"):
-            return line.removeprefix("DB::Exception: ")
-    return str(fault).strip() or "no answer"
 
 
 @dataclass(frozen=True)
@@ -104,7 +63,11 @@ class ClickHouse:
     longest_insert: float = 120.0
 
     def now(self) -> float:
-        return float(self.client.rows("SELECT toUnixTimestamp(now())")[0][0])
+        rows = self.client.rows("SELECT toUnixTimestamp(now())")
+        try:
+            return float(whole(rows[0][0]))
+        except (NoNumber, IndexError, TypeError) as fault:
+            raise OddAnswer("no answer of ClickHouse: it doesn't say its time") from fault
 
     def settled(self) -> float:
         return self.usual_wait if self.wait is None else self.wait
@@ -113,61 +76,132 @@ class ClickHouse:
         answer = Answer({indicator.sli: Reading() for indicator in asked})
         if self.table.inserted is not None:
             answer.mark = self.now() - self.longest_insert
-        late = self._late(asked, mark)
+        late = self._late(list(asked), asked, mark)
         for group in _alike(asked):
-            spans = merged([asked[i] for i in group] + [_stretch(m, group[0].every) for m in late])
             newest = max(asked[i][1] for i in group)
-            self._count(group, [(b, min(e, newest)) for b, e in spans if b < newest], answer)
+            spans = merged([asked[i] for i in group] + [_stretch(m, group[0]) for m in late])
+            due = [(b, min(e, newest)) for b, e in spans if b < newest]
+            for place in range(0, len(due), SPANS_AT_ONCE):
+                self._count(group, due[place : place + SPANS_AT_ONCE], answer)
         return answer
 
-    def _late(self, asked: Mapping[Indicator, Span], mark: Optional[float]) -> list[int]:
-        """The minutes of which events came since the mark."""
-        if mark is None or self.table.inserted is None:
+    def _late(
+        self,
+        indicators: Sequence[Indicator],
+        asked: Mapping[Indicator, Span],
+        mark: Optional[float],
+    ) -> list[int]:
+        """The minutes of which events of these indicators came since the mark."""
+        if mark is None or self.table.inserted is None or not indicators:
             return []
-        end = max((span[1] for span in asked.values()), default=0)
+        end = max(asked[i][1] for i in indicators)
         since = max(end - self.table.late_days * DAY, 0)
         query = (
-            f"SELECT DISTINCT intDiv(toUnixTimestamp({self.table.time}), {MINUTE}) AS minute "
+            f"SELECT DISTINCT intDiv(toUnixTimestamp({self.table.time}), {MINUTE}) AS slo_minute "
             f"FROM {self.table.name} "
             f"WHERE {self.table.time} >= toDateTime({since * MINUTE}) "
             f"AND {self.table.time} < toDateTime({end * MINUTE}) "
             f"AND {self.table.inserted} >= toDateTime({max(int(mark), 0)})"
+            f"{_events_of(indicators)}"
         )
-        return sorted(int(row[0]) for row in self.client.rows(query))
+        try:
+            return sorted({_minute(row[0], (since, end)) for row in self.client.rows(query)})
+        except QueryFault:
+            # The one that can't be run is told when it is counted; the others' events are found.
+            if len(indicators) == 1:
+                return []
+            half = len(indicators) // 2
+            first = self._late(indicators[:half], asked, mark)
+            return sorted({*first, *self._late(indicators[half:], asked, mark)})
+        except (IndexError, TypeError) as fault:
+            raise OddAnswer("no answer of ClickHouse: a row without a minute") from fault
 
     def _count(self, group: Sequence[Indicator], spans: Sequence[Span], answer: Answer) -> None:
-        if not spans:
+        """Count a group, by halves where the query can't be run or its answer can't be read, so
+        that one indicator stops no other."""
+        if answer.fault is not None:
+            for indicator in group:
+                answer.readings[indicator.sli].unread = True
+            return
+        group = [i for i in group if not answer.readings[i.sli].unread]
+        if not group:
             return
         try:
             rows = self.client.rows(aggregate_query(self.table, group, spans))
-        except QueryFault as fault:
-            self._count_apart(group, spans, answer, fault)
-            return
-        for place, indicator in enumerate(group):
-            reading = answer.readings[indicator.sli]
-            columns = [
-                (int(row[0]), str(row[1]), row[2 + 2 * place], row[3 + 2 * place]) for row in rows
-            ]
-            if indicator.form is Form.VALUE:
-                _put_values(indicator, columns, reading)
-            else:
-                _put_counts(indicator, columns, reading)
-
-    def _count_apart(
-        self, group: Sequence[Indicator], spans: Sequence[Span], answer: Answer, fault: QueryFault
-    ) -> None:
-        """Count each indicator by itself, so that one that can't be run stops no other."""
-        if len(group) > 1:
-            for indicator in group:
-                self._count([indicator], spans, answer)
+            found = [_cells_of(row, group, spans) for row in rows]
+        except (QueryFault, OddAnswer) as fault:
+            if len(group) == 1:
+                parts = _halves(spans, group[0].every) if isinstance(fault, TooLarge) else []
+                if parts:
+                    for part in parts:
+                        self._count(group, part, answer)
+                    return
+                reading = answer.readings[group[0].sli]
+                if isinstance(fault, QueryFault):
+                    reading.fail("query", f"query: {fault}")
+                else:
+                    reading.fail("answer", str(fault))
+                return
+            half = len(group) // 2
+            self._count(group[:half], spans, answer)
+            self._count(group[half:], spans, answer)
+        except EngineError as fault:
+            answer.fault = str(fault)
+            self._count(group, spans, answer)
         else:
-            reading = answer.readings[group[0].sli]
-            reading.faults.append(f"query: {fault}")
-            reading.unread = True
+            for place, indicator in enumerate(group):
+                told = [(minute, source, pairs[place]) for minute, source, pairs in found]
+                reading = answer.readings[indicator.sli]
+                if not reading.unread:
+                    _put(indicator, told, reading)
+                    if indicator.form is not Form.VALUE and not reading.faults:
+                        reading.spans.extend(spans)
+
+
+Found = tuple[int, str, list[tuple[Any, Any]]]
+
+
+def _cells_of(row: Row, group: Sequence[Indicator], spans: Sequence[Span]) -> Found:
+    """A row of an answer: its minute, its source, and a pair of numbers for each indicator."""
+    if not isinstance(row, (tuple, list)) or len(row) != 2 + 2 * len(group):
+        raise OddAnswer("no answer of ClickHouse: a row of another length")
+    minute = _minute(row[0], (spans[0][0], spans[-1][1] + group[0].every))
+    source = "" if row[1] is None else row[1]
+    if not isinstance(source, str):
+        raise OddAnswer(f"no answer of ClickHouse: {shown(source)} is no source")
+    return minute, source, list(zip(row[2::2], row[3::2]))
+
+
+def _minute(value: Any, span: Span) -> int:
+    try:
+        minute = whole(value)
+    except NoNumber as fault:
+        raise OddAnswer(f"no answer of ClickHouse: {fault} is no minute") from fault
+    if not span[0] <= minute < span[1]:
+        raise OddAnswer(f"no answer of ClickHouse: minute {shown(minute)} wasn't asked for")
+    return minute
+
+
+def _put(
+    indicator: Indicator, told: Sequence[tuple[int, str, tuple[Any, Any]]], reading: Reading
+) -> None:
+    """The rows of the minutes of which there are events."""
+    try:
+        events = [(m, s, pair) for m, s, pair in told if whole(pair[1]) > 0]
+    except NoNumber as fault:
+        reading.fail("answer", f"no answer of ClickHouse: {fault} events")
+        return
+    if indicator.form is Form.VALUE:
+        put_values(
+            indicator, [(source, minute, pair[0]) for minute, source, pair in events], reading
+        )
+    else:
+        put_counts(indicator, [Count(s, m, *pair) for m, s, pair in events], reading)
 
 
 def aggregate_query(table: Table, group: Sequence[Indicator], spans: Sequence[Span]) -> str:
-    """The query that counts all indicators of a group by stretch and source at once."""
+    """The query that counts all indicators of a group by stretch and source at once. It reads the
+    events of these indicators alone, so that the table's key is of use."""
     every, label = group[0].every, group[0].label
     minute = f"intDiv(toUnixTimestamp({table.time}), {MINUTE})"
     stretch = minute if every == 1 else f"intDiv({minute}, {every}) * {every} + {every - 1}"
@@ -184,13 +218,21 @@ def aggregate_query(table: Table, group: Sequence[Indicator], spans: Sequence[Sp
     )
     return (
         f"SELECT {stretch} AS slo_minute, {source} AS slo_source, {', '.join(columns)} "
-        f"FROM {table.name} WHERE ({times}){_condition(group)} GROUP BY slo_minute, slo_source"
+        f"FROM {table.name} WHERE ({times}){_events_of(group)} GROUP BY slo_minute, slo_source"
     )
 
 
-def _condition(group: Sequence[Indicator]) -> str:
-    first = group[0]
-    return f" AND ({first.total})" if first.form is Form.VALUE and first.total else ""
+def _events_of(indicators: Iterable[Indicator]) -> str:
+    """The condition of the events of which one of these indicators counts at least one; nothing
+    where one of them is a value of all events."""
+    conditions: dict[str, None] = {}
+    for indicator in indicators:
+        if indicator.form is not Form.VALUE:
+            conditions[indicator.part] = None
+        if not indicator.total:
+            return ""
+        conditions[indicator.total] = None
+    return f" AND ({' OR '.join(f'({condition})' for condition in conditions)})"
 
 
 def merged(spans: Iterable[Span]) -> list[Span]:
@@ -204,51 +246,31 @@ def merged(spans: Iterable[Span]) -> list[Span]:
     return joined
 
 
-def _stretch(minute: int, every: int) -> Span:
-    begin = minute - minute % every
-    return begin, begin + every
+def _halves(spans: Sequence[Span], every: int) -> list[list[Span]]:
+    """Spans in two parts of whole stretches, none where there is one stretch alone."""
+    if len(spans) > 1:
+        half = len(spans) // 2
+        return [list(spans[:half]), list(spans[half:])]
+    begin, end = spans[0]
+    middle = stretch_minute((begin + end) // 2, every) + 1
+    return [[(begin, middle)], [(middle, end)]] if begin < middle < end else []
+
+
+def _stretch(minute: int, indicator: Indicator) -> Span:
+    """The stretch of a minute of which events came late, from where rows are made this way."""
+    begin = minute - minute % indicator.every
+    return max(begin, indicator.since), begin + indicator.every
 
 
 def _alike(asked: Mapping[Indicator, Span]) -> list[list[Indicator]]:
-    """Indicators that one query can count: by the same source and stretch. A value's condition
-    restricts its aggregate's events, so it is asked for by itself."""
-    groups: dict[tuple[Optional[str], int, str], list[Indicator]] = {}
+    """Indicators that one query can count: by the same source and stretch, and made this way from
+    the same minute on. A value's condition restricts its aggregate's events, so it is asked for by
+    itself; values of all events go together."""
+    groups: dict[tuple[Optional[str], int, int, str], list[Indicator]] = {}
     for indicator in asked:
-        alone = indicator.sli if indicator.form is Form.VALUE and indicator.total else ""
-        groups.setdefault((indicator.label, indicator.every, alone), []).append(indicator)
+        kind = "counts"
+        if indicator.form is Form.VALUE:
+            kind = f"value {indicator.sli}" if indicator.total else "values"
+        key = (indicator.label, indicator.every, indicator.since, kind)
+        groups.setdefault(key, []).append(indicator)
     return list(groups.values())
-
-
-def _put_counts(
-    indicator: Indicator, columns: Iterable[tuple[int, str, Any, Any]], reading: Reading
-) -> None:
-    names = _names(indicator, columns)
-    counts = [
-        (Cell(indicator.sli, names[source], minute), int(part), int(total))
-        for minute, source, part, total in columns
-        if total
-    ]
-    amounts, too_many = amounts_of(summed(counts))
-    reading.amounts.update(amounts)
-    reading.faults.extend(f"{c.source} {c.minute}: more than 10^9 events" for c in too_many)
-
-
-def _put_values(
-    indicator: Indicator, columns: Iterable[tuple[int, str, Any, Any]], reading: Reading
-) -> None:
-    names = _names(indicator, columns)
-    for minute, source, value, events in columns:
-        number = Decimal(str(value))
-        if not events or number.is_nan():
-            continue
-        if not 0 <= number <= (1 if indicator.ratio else MOST_VALUE):
-            reading.faults.append(f"{source} {minute}: {value} is out of range")
-            continue
-        cell = Cell(indicator.sli, names[source], minute)
-        reading.amounts[cell] = Amount.value(number)
-
-
-def _names(indicator: Indicator, columns: Iterable[tuple[int, str, Any, Any]]) -> Mapping[str, str]:
-    if indicator.label is None:
-        return {source: indicator.name for _, source, _, _ in columns}
-    return {source: source_name(source) for _, source, _, _ in columns}

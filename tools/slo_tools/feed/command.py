@@ -3,19 +3,20 @@
 from __future__ import annotations
 
 import argparse
+import errno
 import logging
+import os
 import sys
 from collections.abc import Callable, Sequence
 from pathlib import Path
 from typing import Optional
 
 from slo_tools.clock import MINUTE, Clock, SystemClock, minute_of_date
-from slo_tools.feed.clickhouse import ClickHouse, ClickHouseClient, Table
-from slo_tools.feed.config import Config, EngineConfig, read_config
-from slo_tools.feed.engine import Engine, EngineError
+from slo_tools.feed.config import Config, read_config
+from slo_tools.feed.engine import Engine
+from slo_tools.feed.making import engine_of
 from slo_tools.feed.objects import DataSource
-from slo_tools.feed.prometheus import Prometheus, PrometheusClient
-from slo_tools.feed.rounds import Feed
+from slo_tools.feed.rounds import Feed, why_not_written
 from slo_tools.feed.state import read_state
 from slo_tools.feed.watch import LOG, Watch
 from slo_tools.office import Office
@@ -80,53 +81,15 @@ def office_of(config: Config) -> Office:
 
 def engine_maker(config: Config) -> Callable[[DataSource], Engine]:
     """What makes the engine of a DataSource. Raises EngineError for details that don't do."""
-
-    def make(source: DataSource) -> Engine:
-        added = config.engine(source.name)
-        details = {**source.details, **added.details}
-        if source.type == "Prometheus":
-            return _prometheus(details, added)
-        return _clickhouse(details, added)
-
-    return make
-
-
-def _wanted(details: dict[str, str], key: str) -> str:
-    if key not in details:
-        raise EngineError(f"its connectionDetails have no {key}")
-    return details[key]
-
-
-def _prometheus(details: dict[str, str], added: EngineConfig) -> Engine:
-    client = PrometheusClient(
-        _wanted(details, "url"), added.login.credentials, added.login.token, added.login.verify
-    )
-    return Prometheus(client, added.wait)
-
-
-def _clickhouse(details: dict[str, str], added: EngineConfig) -> Engine:
-    user, password = added.login.credentials or ("default", "")
-    try:
-        port = int(details.get("port", "9000"))
-        late_days = int(details.get("late_days", "7"))
-    except ValueError as fault:
-        raise EngineError("its port or late_days is no number") from fault
-    client = ClickHouseClient(
-        _wanted(details, "host"),
-        port,
-        details.get("database", "default"),
-        user,
-        password,
-        secure=details.get("secure") == "true",
-    )
-    table = Table(
-        _wanted(details, "table"), _wanted(details, "time"), details.get("inserted"), late_days
-    )
-    return ClickHouse(client, table, added.wait)
+    return lambda source: engine_of(source, config.engine(source.name))
 
 
 def run(config: Config, begin: Optional[int], once: bool, clock: Clock) -> int:
     """One round, a back-fill, or rounds for ever."""
+    why = place_fault(config.state)
+    if why is not None:
+        print(f"slo-feed: {config.state}: {why}", file=sys.stderr)
+        return USAGE
     state, why = read_state(config.state)
     if why is not None:
         LOG.info("no state (%s): what the office holds is found out anew", why)
@@ -144,6 +107,16 @@ def run(config: Config, begin: Optional[int], once: bool, clock: Clock) -> int:
         feed.round()
         _write_metrics(config, watch)
         clock.sleep(seconds_to_next(clock.now(), feed.behind()))
+
+
+def place_fault(state: Path) -> Optional[str]:
+    """Why the state couldn't be kept, before anything is done; None where it can."""
+    folder = state.parent
+    if not folder.is_dir():
+        return why_not_written(FileNotFoundError(errno.ENOENT, ""))
+    if not os.access(folder, os.W_OK | os.X_OK):
+        return why_not_written(PermissionError(errno.EACCES, os.strerror(errno.EACCES)))
+    return None
 
 
 def seconds_to_next(now: float, behind: float) -> float:

@@ -9,8 +9,11 @@ from typing import Optional
 
 from slo_tools.office import is_label
 from slo_tools.settings import Login, Table, read_settings
+from slo_tools.wire import address_of
 
 EVERY = (1, 5, 10, 15)
+# The details that say whom an engine's secret is told.
+ADDRESS = ("url", "host", "port", "secure")
 
 
 @dataclass(frozen=True)
@@ -24,12 +27,12 @@ class EngineConfig:
 
 @dataclass(frozen=True)
 class IndicatorConfig:
-    """How the rows of an indicator are made. Without a label and a name the engine's usual label
-    names the sources."""
+    """How the rows of an indicator are made, as far as the file says it: by a label, or summed up
+    under a name; and how many minutes a row has."""
 
     label: Optional[str] = None
     name: Optional[str] = None
-    every: int = 1
+    every: Optional[int] = None
     look_back: int = 10
     gap: int = 60
     engine: Optional[str] = None
@@ -44,6 +47,7 @@ class Config:
     office_login: Login
     state: Path
     first: int = 60
+    spread: int = 10
     reread_objects: int = 5
     metrics_port: Optional[int] = None
     metrics_file: Optional[Path] = None
@@ -65,12 +69,11 @@ def read_config(path: Path) -> Config:
 
 def _config(table: Table, folder: Path) -> Config:
     office = table.table("office")
-    address = office.address("address")
-    office_login = office.login(folder)
-    office.end()
+    address, office_login = _office(office, folder)
     feed = table.table("feed")
     state = folder / feed.wanted("state")
     first = feed.number("first", 60, 1, 1_000_000)
+    spread = feed.number("spread", 10, 0, 59)
     reread = feed.number("reread_objects", 5, 1, 1440)
     port = feed.number("metrics_port", 0, 0, 65535)
     file = feed.file("metrics_file", folder)
@@ -86,6 +89,7 @@ def _config(table: Table, folder: Path) -> Config:
         office_login=office_login,
         state=state,
         first=first,
+        spread=spread,
         reread_objects=reread,
         metrics_port=port or None,
         metrics_file=file,
@@ -95,10 +99,33 @@ def _config(table: Table, folder: Path) -> Config:
     )
 
 
+def _office(table: Table, folder: Path) -> tuple[str, Login]:
+    address = table.address("address")
+    login = table.login(folder)
+    table.end()
+    if login.verify is not True and not address.startswith("https:"):
+        raise table.fault("ca", "is of use with an https address alone")
+    return address, login
+
+
 def _engine(table: Table, folder: Path) -> EngineConfig:
     login = table.login(folder)
     wait = table.seconds("wait")
-    details = {key: table.wanted(key) for key in table.names()}
+    details = {key: table.word(key) for key in table.names()}
+    if login.has_secret and not {"url", "host"} & details.keys():
+        raise table.fault(
+            "url",
+            "is missing beside a secret: write the Prometheus's url, or the ClickHouse's host, port "
+            "and secure, here (a DataSource's own address, which others may define, isn't used "
+            "with it)",
+        )
+    if "url" in details:
+        try:
+            address_of(details["url"].rstrip("/"))
+        except ValueError as fault:
+            raise table.fault("url", str(fault)) from fault
+    if details.get("secure", "false") not in ("true", "false"):
+        raise table.fault("secure", "is neither true nor false")
     return EngineConfig(login, wait, details)
 
 
@@ -108,9 +135,11 @@ def _indicator(table: Table, usual: IndicatorConfig) -> IndicatorConfig:
         raise table.fault("label", "and sum: one of them")
     if name is not None and not is_label(name):
         raise table.fault("sum", f"{name!r} is no name of a source")
-    every = table.number("every", usual.every, 1, 15)
-    if every not in EVERY:
-        raise table.fault("every", "is 1, 5, 10 or 15 minutes")
+    every = usual.every
+    if "every" in table.names():
+        every = table.number("every", 1, 1, 15)
+        if every not in EVERY:
+            raise table.fault("every", "is 1, 5, 10 or 15 minutes")
     look_back = table.number("look_back", usual.look_back, 1, 1440)
     gap = table.number("gap", usual.gap, 1, 1440)
     engine = table.text("engine") or usual.engine

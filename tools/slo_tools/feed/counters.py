@@ -122,6 +122,34 @@ def rises(parts: Iterable[Series], totals: Iterable[Series], gap: int) -> Iterat
         yield from _rises_of(key, by_time, seen, gap)
 
 
+@dataclass(frozen=True)
+class Hole:
+    """A target that wasn't scraped for longer than a gap, between two milliseconds."""
+
+    target: Labels
+    begin: int
+    end: int
+
+
+def holes(series: Iterable[Series], gap: int) -> list[Hole]:
+    """Where targets weren't scraped for more than `gap` milliseconds, and then again: what they
+    counted meanwhile isn't known."""
+    suspects: dict[Labels, list[Series]] = {}
+    for one in series:
+        suspects.setdefault(target_of(one.labels), []).append(one)
+    found = []
+    for target, own in suspects.items():
+        if any(_has_hole([moment for moment, _ in one.samples], gap) for one in own):
+            moments = sorted({moment for one in own for moment, _ in one.samples})
+            pairs = zip(moments, moments[1:])
+            found += [Hole(target, a, b) for a, b in pairs if b - a > gap]
+    return found
+
+
+def _has_hole(moments: Sequence[int], gap: int) -> bool:
+    return any(after - before > gap for before, after in zip(moments, moments[1:]))
+
+
 Scrapes = dict[Labels, dict[int, _Scrape]]
 
 

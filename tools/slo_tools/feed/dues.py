@@ -39,7 +39,7 @@ def due(
     begin = newest - first + 1 if through is None else first_again(indicator, through)
     begin = max(begin, origin or 0, 0)
     # A stretch is read whole, also where it begins before the first minute asked for.
-    begin -= begin % indicator.every
+    begin = max(begin - begin % indicator.every, indicator.since)
     return Due(indicator, begin, newest + 1) if begin <= newest else None
 
 

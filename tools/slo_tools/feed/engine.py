@@ -11,7 +11,15 @@ from slo_tools.feed.cells import Amounts
 
 
 class EngineError(Exception):
-    """The engine couldn't be asked, or its answer isn't of its form."""
+    """The engine couldn't be asked."""
+
+
+class OddAnswer(EngineError):
+    """An answer that isn't of its form. It says nothing of what else the engine would answer."""
+
+
+class TooLarge(OddAnswer):
+    """An answer of more bytes than are read."""
 
 
 class QueryFault(ValueError):
@@ -45,6 +53,8 @@ class Indicator:
     look_back: int
     gap: int
     ratio: bool = False
+    # The first minute whose rows are made this way; those before stay as they are.
+    since: int = 0
 
     def newest(self, closed: int) -> int:
         """The newest minute whose stretch has ended, where `closed` is the newest closed one."""
@@ -56,9 +66,37 @@ class Reading:
     """What an engine says of an indicator's minutes, and what a person has to know about it."""
 
     amounts: Amounts = field(default_factory=dict)
-    faults: list[str] = field(default_factory=list)
-    # The query has to be mended first, and the same minutes are asked for again then.
+    # The same minutes are asked for again: the query has to be mended first, or the engine.
     unread: bool = False
+    # Minutes of which all events were told: what isn't there didn't happen.
+    spans: list[tuple[int, int]] = field(default_factory=list)
+    # What isn't known for good, as what was counted while nothing was scraped.
+    notes: list[str] = field(default_factory=list)
+    _faults: dict[str, list[str]] = field(default_factory=dict)
+
+    def fault(self, kind: str, *texts: str) -> None:
+        """Note faults, of which the first one of a kind is told."""
+        if texts:
+            self._faults.setdefault(kind, []).extend(texts)
+
+    def fail(self, kind: str, why: str) -> None:
+        """Nothing of this reading counts."""
+        self.amounts.clear()
+        self.spans.clear()
+        self._faults = {kind: [why]}
+        self.unread = True
+
+    def no_faults(self) -> None:
+        self._faults.clear()
+
+    @property
+    def faults(self) -> dict[str, str]:
+        """A line for each kind of fault."""
+        more = {kind: len(texts) - 1 for kind, texts in self._faults.items()}
+        return {
+            kind: texts[0] + (f" (and {more[kind]} more)" if more[kind] else "")
+            for kind, texts in self._faults.items()
+        }
 
 
 @dataclass
@@ -68,6 +106,8 @@ class Answer:
     readings: dict[str, Reading] = field(default_factory=dict)
     # Up to where late events were looked for, for the engines that tell when an event came.
     mark: Optional[float] = None
+    # Why the engine answers no more, where it stopped in the middle.
+    fault: Optional[str] = None
 
 
 class Engine(Protocol):

@@ -10,9 +10,13 @@ from slo_tools.feed.config import Config, IndicatorConfig
 from slo_tools.feed.engine import Form, Indicator
 from slo_tools.feed.promql import fault_of
 from slo_tools.objects import Document, map_of, object_of
+from slo_tools.answers import ObjectName
 from slo_tools.office import Office
+from slo_tools.refusals import Foreign, NotFound
 
 ENGINES = ("Prometheus", "ClickHouse")
+# The source of the rows of all sources together.
+SUM = "all"
 
 
 class FrozenDetails(dict[str, str]):
@@ -39,6 +43,8 @@ class Catalog:
     sources: dict[str, DataSource] = field(default_factory=dict)
     indicators: list[Indicator] = field(default_factory=list)
     left_out: dict[str, str] = field(default_factory=dict)
+    # Objects that can't be read.
+    odd: dict[str, str] = field(default_factory=dict)
     slos: list[str] = field(default_factory=list)
 
 
@@ -47,25 +53,43 @@ class LeftOut(Exception):
 
 
 def read_catalog(office: Office, config: Config) -> Catalog:
-    """Ask the office for its DataSources and SLIs."""
+    """Ask the office for its DataSources and SLIs. An object that can't be read is left out, and no
+    other. Raises OfficeError where the office doesn't answer."""
     catalog = Catalog()
     with office.kept_link():
         catalog.entries, names = office.objects()
         for name in names:
             if name.kind == "DataSource":
-                document = object_of(office, name.kind, name.name)
-                catalog.sources[name.name] = data_source(document)
+                document = _read(office, name, catalog)
+                if document is not None:
+                    catalog.sources[name.name] = data_source(document)
             elif name.kind == "SLO":
                 catalog.slos.append(name.name)
         for name in names:
             if name.kind == "SLI" and not config.indicator(name.name).skip:
-                document = object_of(office, name.kind, name.name)
-                try:
-                    made = config.indicator(name.name)
-                    catalog.indicators.append(indicator_of(document, made, catalog.sources))
-                except LeftOut as why:
-                    catalog.left_out[name.name] = str(why)
+                document = _read(office, name, catalog)
+                if document is not None:
+                    _add_indicator(document, config, catalog)
     return catalog
+
+
+def _read(office: Office, name: ObjectName, catalog: Catalog) -> Optional[Document]:
+    try:
+        return object_of(office, name.kind, name.name)
+    except (Foreign, NotFound) as fault:
+        catalog.odd[f"{name.kind} {name.name}"] = f"its object can't be read ({fault})"
+        return None
+
+
+def _add_indicator(document: Document, config: Config, catalog: Catalog) -> None:
+    name = document.name
+    try:
+        made = indicator_of(document, config.indicator(name), catalog.sources)
+        catalog.indicators.append(made)
+    except LeftOut as why:
+        catalog.left_out[name] = str(why)
+    except (AttributeError, KeyError, TypeError, ValueError) as fault:
+        catalog.odd[f"SLI {name}"] = f"its object can't be read ({type(fault).__name__})"
 
 
 def data_source(document: Document) -> DataSource:
@@ -102,7 +126,7 @@ def indicator_of(
         total=metrics[1].query if form is not Form.VALUE else metrics[0].where,
         label=label,
         name=name,
-        every=config.every,
+        every=config.every or 1,
         look_back=config.look_back,
         gap=config.gap,
         ratio="raw" in ratio,
@@ -162,7 +186,4 @@ def _rows_source(config: IndicatorConfig, source: DataSource) -> tuple[Optional[
     """The label whose values name the sources, None for the sum over all, and the sum's name."""
     if config.name is not None:
         return None, config.name
-    usual = source.details.get("source")
-    if usual is None and source.type == "Prometheus":
-        usual = "instance"
-    return config.label or usual, "all"
+    return config.label or source.details.get("source"), SUM

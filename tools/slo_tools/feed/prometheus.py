@@ -2,29 +2,28 @@
 
 from __future__ import annotations
 
-import json
 import time
-from collections.abc import Iterable, Iterator, Mapping, Sequence
+from collections.abc import Iterable, Iterator, Mapping
 from dataclasses import dataclass, field
-from decimal import Decimal, InvalidOperation
-from typing import Any, Optional, Protocol, Union
+from typing import Optional, Protocol
 
-import requests
-
-from slo_tools.clock import MINUTE
-from slo_tools.feed.cells import (
-    MOST_VALUE,
-    Amount,
-    Amounts,
-    Cell,
-    amounts_of,
-    source_name,
-    stretch_minute,
-    summed,
+from slo_tools.clock import MINUTE, date_of
+from slo_tools.feed.cells import Cell, stretch_minute, summed
+from slo_tools.feed.counters import Hole, Labels, Rise, Series, holes, rises
+from slo_tools.feed.engine import (
+    Answer,
+    EngineError,
+    Form,
+    Indicator,
+    OddAnswer,
+    QueryFault,
+    Reading,
+    TooLarge,
 )
-from slo_tools.feed.counters import Series, rises
-from slo_tools.feed.engine import Answer, EngineError, Form, Indicator, QueryFault, Reading
+from slo_tools.feed.numbers import NoNumber, NotWhole, shown, whole
+from slo_tools.feed.prometheus_client import Values
 from slo_tools.feed.promql import selectors
+from slo_tools.feed.rows import Count, SourceNames, put_counts, put_sums, put_values
 
 # A first look behind a range for the scrape before it; most targets are scraped more often.
 _NEAR_SECONDS = 120
@@ -33,18 +32,6 @@ _MINUTES_AT_ONCE = 360
 _POINTS_AT_ONCE = 10_000
 # Seconds; a large Prometheus has a long list of targets.
 _TARGETS_ASKED_EACH = 600.0
-
-
-class NotWhole(ValueError):
-    """A number that counts no events."""
-
-
-@dataclass(frozen=True)
-class Values:
-    """The samples of one series as they came."""
-
-    labels: frozenset[tuple[str, str]]
-    values: Sequence[tuple[float, str]]
 
 
 class AsksPrometheus(Protocol):
@@ -63,112 +50,6 @@ class AsksPrometheus(Protocol):
         """The greatest timeout of its targets, where it says so."""
 
 
-@dataclass
-class PrometheusClient:
-    """The HTTP interface of a Prometheus, or of what speaks as it does."""
-
-    url: str
-    credentials: Optional[tuple[str, str]] = None
-    token: Optional[str] = None
-    verify: Union[bool, str] = True
-    timeout: float = 30.0
-    _session: requests.Session = field(default_factory=requests.Session, init=False, repr=False)
-
-    def __post_init__(self) -> None:
-        self._session.trust_env = False
-        self._session.auth = self.credentials
-        if self.token is not None:
-            self._session.headers["Authorization"] = f"Bearer {self.token}"
-
-    def now(self) -> float:
-        data = self._ask("query", {"query": "time()"})
-        return float(data["result"][1])
-
-    def samples(self, selector: str, begin: float, end: float) -> list[Values]:
-        seconds = max(1, round(end - begin))
-        data = self._ask("query", {"query": f"{selector}[{seconds}s]", "time": f"{end:.3f}"})
-        return [_values(series) for series in data["result"]]
-
-    def values(self, query: str, begin: int, end: int, step: int) -> list[Values]:
-        keys = {"query": query, "start": str(begin), "end": str(end), "step": str(step)}
-        data = self._ask("query_range", keys)
-        return [_values(series) for series in data["result"]]
-
-    def scrape_timeout(self) -> Optional[float]:
-        try:
-            targets = self._ask("targets", {"state": "active"})["activeTargets"]
-            return max((_seconds(t["scrapeTimeout"]) for t in targets), default=None)
-        except (EngineError, KeyError, ValueError):
-            return None
-
-    def _ask(self, what: str, keys: Mapping[str, str]) -> dict[str, Any]:
-        url = f"{self.url.rstrip('/')}/api/v1/{what}"
-        try:
-            if what == "targets":
-                answer = self._session.get(
-                    url, params=keys, timeout=self.timeout, verify=self.verify
-                )
-            else:
-                answer = self._session.post(
-                    url, data=keys, timeout=self.timeout, verify=self.verify
-                )
-        except requests.RequestException as fault:
-            raise EngineError(f"{self.url}: no answer ({type(fault).__name__})") from fault
-        try:
-            told = json.loads(answer.content)
-            if told["status"] != "success":
-                raise _error(self.url, told)
-            data: dict[str, Any] = told["data"]
-        except QueryFault:
-            raise
-        except (ValueError, KeyError, TypeError) as fault:
-            why = f"status {answer.status_code}, no answer of Prometheus"
-            raise EngineError(f"{self.url}: {why}") from fault
-        return data
-
-
-def _error(url: str, told: Mapping[str, Any]) -> Exception:
-    """What an answer says that is none: the query's fault, or Prometheus's."""
-    text = f"{told.get('errorType')}: {told.get('error')}"
-    if told.get("errorType") in ("bad_data", "execution"):
-        return QueryFault(text)
-    return EngineError(f"{url}: {text}")
-
-
-def _values(series: Mapping[str, Any]) -> Values:
-    labels = frozenset(series["metric"].items())
-    return Values(labels, [(float(t), v) for t, v in series["values"]])
-
-
-def _seconds(text: str) -> float:
-    """A duration of Prometheus as `10s`, `1m`, `1m30s` or `500ms`."""
-    units = {"ms": 0.001, "s": 1.0, "m": 60.0, "h": 3600.0}
-    total = 0.0
-    digits = unit = ""
-    for character in text + "0":
-        if character.isdigit() and unit:
-            total += int(digits) * units[unit]
-            digits = unit = ""
-        if character.isdigit():
-            digits += character
-        else:
-            unit += character
-    return total
-
-
-def whole(text: str) -> int:
-    """A sample's value as a number of events."""
-    if text.isdigit():
-        return int(text)
-    try:
-        number = Decimal(text)
-    except InvalidOperation:
-        raise NotWhole(text) from None
-    if not number.is_finite() or number < 0 or number != number.to_integral_value():
-        raise NotWhole(text)
-    return int(number)
-
-
 def minute_of_sample(milliseconds: int) -> int:
     """The minute whose end a scrape speaks for first: one at a minute's very end still tells
     what was counted in it, as `last_over_time` at that moment does."""
@@ -185,6 +66,8 @@ class Prometheus:
     usual_wait: float = 15.0
     _timeout: Optional[float] = field(default=None, init=False)
     _asked: float = field(default=0.0, init=False)
+    # How many minutes of an SLI one answer can have, where that was found out.
+    _minutes: dict[str, int] = field(default_factory=dict, init=False)
 
     def now(self) -> float:
         return self.client.now()
@@ -202,20 +85,37 @@ class Prometheus:
     ) -> Answer:
         answer = Answer()
         for indicator, (begin, end) in asked.items():
-            reading = answer.readings.setdefault(indicator.sli, Reading())
+            reading = answer.readings[indicator.sli] = Reading()
+            if answer.fault is not None:
+                reading.unread = True
+                continue
             try:
                 self._read_one(indicator, begin, end, reading)
             except QueryFault as fault:
-                reading.faults.append(f"query: {fault}")
-                reading.unread = True
+                reading.fail("query", f"query: {fault}")
             except NotWhole as fault:
+                # What isn't counted in whole events never will be; the minutes go by.
                 reading.amounts.clear()
-                reading.faults.append(f"value {fault} counts no events")
+                reading.fault("events", f"value {fault} counts no events")
+            except Exception as fault:
+                why = str(fault) if isinstance(fault, EngineError) else _unforeseen(fault)
+                reading.fail("answer", why)
+                if not isinstance(fault, OddAnswer):
+                    self._look(why, reading, answer)
         return answer
+
+    def _look(self, why: str, reading: Reading, answer: Answer) -> None:
+        """Whether Prometheus still answers; what failed was the query's alone then."""
+        try:
+            self.client.now()
+        except (EngineError, QueryFault):
+            answer.fault = why
+            reading.no_faults()
 
     def _read_one(self, indicator: Indicator, begin: int, end: int, reading: Reading) -> None:
         if indicator.form is Form.COUNTERS:
-            for first, last in _pieces(begin, end, indicator.every, _MINUTES_AT_ONCE):
+            most = self._minutes.get(indicator.sli, _MINUTES_AT_ONCE)
+            for first, last in _pieces(begin, end, indicator.every, most):
                 self._count(indicator, first, last, reading)
         else:
             for first, last in _pieces(begin, end, indicator.every, _POINTS_AT_ONCE):
@@ -224,22 +124,39 @@ class Prometheus:
     # Counters
 
     def _count(self, indicator: Indicator, begin: int, end: int, reading: Reading) -> None:
-        parts, totals = self._series_behind(indicator, begin, end)
-        names = _Names(indicator)
+        """Count the minutes [begin, end), by halves where the answer is too long."""
+        try:
+            parts, totals = self._series_behind(indicator, begin, end, reading)
+        except TooLarge:
+            middle = stretch_minute((begin + end) // 2, indicator.every) + 1
+            if not begin < middle < end:
+                raise
+            self._minutes[indicator.sli] = middle - begin
+            self._count(indicator, begin, middle, reading)
+            self._count(indicator, middle, end, reading)
+            return
+        gap = indicator.gap * MINUTE * 1000
+        self._add_up(indicator, rises(parts, totals, gap), (begin, end), reading)
+        for hole in holes([*parts, *totals], gap):
+            if hole.end > begin * MINUTE * 1000:
+                reading.notes.append(_told(hole, indicator))
+
+    def _add_up(
+        self, indicator: Indicator, found: Iterable[Rise], span: tuple[int, int], reading: Reading
+    ) -> None:
+        names = SourceNames(indicator)
         counts = []
-        for rise in rises(parts, totals, indicator.gap * MINUTE * 1000):
+        for rise in found:
             minute = minute_of_sample(rise.moment)
-            if begin <= minute < end:
-                source = names.of(rise.key)
+            if span[0] <= minute < span[1]:
+                source = names.of(_value(rise.key, indicator))
                 cell = Cell(indicator.sli, source, stretch_minute(minute, indicator.every))
                 counts.append((cell, rise.part, rise.total))
-        amounts, too_many = amounts_of(summed(counts))
-        reading.amounts.update(amounts)
-        reading.faults.extend(f"{c.source} {c.minute}: more than 10^9 events" for c in too_many)
-        reading.faults.extend(names.faults())
+        put_sums(summed(counts), reading)
+        reading.fault("source", *names.faults("their events are summed"))
 
     def _series_behind(
-        self, indicator: Indicator, begin: int, end: int
+        self, indicator: Indicator, begin: int, end: int, reading: Reading
     ) -> tuple[list[Series], list[Series]]:
         """The series of the minutes [begin, end) with the scrape before each, where there is one
         within the indicator's gap. It is looked for near by first."""
@@ -248,15 +165,15 @@ class Prometheus:
         far = indicator.gap * MINUTE + 1
         for reach in sorted({min(_NEAR_SECONDS, far), far}):
             since = begin * MINUTE - reach
-            parts = self._series(part_selectors, since, end * MINUTE)
-            totals = self._series(total_selectors, since, end * MINUTE)
+            parts = self._series(part_selectors, since, end * MINUTE, reading)
+            totals = self._series(total_selectors, since, end * MINUTE, reading)
             if all(_begins_before(series, begin * MINUTE) for series in [*parts, *totals]):
                 break
         return parts, totals
 
-    def _series(self, texts: Iterable[str], begin: int, end: int) -> list[Series]:
+    def _series(self, texts: Iterable[str], begin: int, end: int, reading: Reading) -> list[Series]:
         return [
-            Series(values.labels, [(round(t * 1000), whole(v)) for t, v in values.values])
+            Series(values.labels, list(_whole_samples(values, reading)))
             for text in texts
             for values in self.client.samples(text, begin, end)
         ]
@@ -265,22 +182,55 @@ class Prometheus:
 
     def _evaluate(self, indicator: Indicator, begin: int, end: int, reading: Reading) -> None:
         parts = self._at_ends(indicator, indicator.part, begin, end)
-        names = _Names(indicator)
         if indicator.form is Form.VALUE:
-            _put_values(indicator, parts, names, reading)
-        else:
-            totals = self._at_ends(indicator, indicator.total or "", begin, end)
-            _put_counts(indicator, parts, totals, names, reading)
-        reading.faults.extend(names.faults())
+            put_values(indicator, parts, reading)
+            return
+        totals = self._at_ends(indicator, indicator.total or "", begin, end)
+        counts = [Count(label, minute, part=value) for label, minute, value in parts]
+        counts += [Count(label, minute, total=value) for label, minute, value in totals]
+        put_counts(indicator, counts, reading)
 
     def _at_ends(
         self, indicator: Indicator, query: str, begin: int, end: int
-    ) -> Iterator[tuple[frozenset[tuple[str, str]], int, str]]:
+    ) -> Iterator[tuple[str, int, object]]:
         step = indicator.every * MINUTE
-        first = (begin + indicator.every) * MINUTE
+        first = (stretch_minute(begin, indicator.every) + 1) * MINUTE
         for values in self.client.values(query, first, end * MINUTE, step):
+            label = _value(values.labels, indicator)
             for moment, value in values.values:
-                yield values.labels, round(moment) // MINUTE - 1, value
+                minute = round(moment) // MINUTE - 1
+                if not begin <= minute < end:
+                    raise OddAnswer("no answer of Prometheus: a moment that wasn't asked for")
+                yield label, minute, value
+
+
+def _whole_samples(values: Values, reading: Reading) -> Iterator[tuple[int, int]]:
+    """Milliseconds and numbers. A scrape that shows no number is as one that was missed."""
+    for moment, value in values.values:
+        try:
+            yield round(moment * 1000), whole(value)
+        except NotWhole:
+            raise
+        except NoNumber as fault:
+            reading.fault("number", f"value {fault} is no number: that scrape counts as missed")
+
+
+def _value(labels: Labels, indicator: Indicator) -> str:
+    """What the indicator's label says of a series."""
+    return next((value for key, value in labels if key == indicator.label), "")
+
+
+def _told(hole: Hole, indicator: Indicator) -> str:
+    target = dict(hole.target).get("instance", "its target")
+    begin, end = (date_of(moment // 60_000) for moment in (hole.begin, hole.end))
+    return (
+        f"{shown(target)} wasn't scraped from {begin} to {end}, longer than gap = "
+        f"{indicator.gap} min: what it counted meanwhile isn't known"
+    )
+
+
+def _unforeseen(fault: Exception) -> str:
+    return f"no answer of Prometheus ({type(fault).__name__}: {shown(str(fault))})"
 
 
 def _begins_before(series: Series, seconds: int) -> bool:
@@ -294,80 +244,3 @@ def _pieces(begin: int, end: int, every: int, most: int) -> Iterator[tuple[int, 
         stop = min(end, begin - begin % every + length)
         yield begin, stop
         begin = stop
-
-
-class _Names:
-    """The sources of an indicator, with the label values that got the same name."""
-
-    def __init__(self, indicator: Indicator) -> None:
-        self._indicator = indicator
-        self._values: dict[str, str] = {}
-        self._names: dict[str, set[str]] = {}
-
-    def of(self, labels: Iterable[tuple[str, str]]) -> str:
-        label = self._indicator.label
-        if label is None:
-            return self._indicator.name
-        value = next((v for k, v in labels if k == label), "")
-        name = self._values.get(value)
-        if name is None:
-            name = self._values[value] = source_name(value)
-            self._names.setdefault(name, set()).add(value)
-        return name
-
-    def faults(self) -> list[str]:
-        return [
-            f"source {name} stands for {', '.join(sorted(values))}"
-            for name, values in self._names.items()
-            if len(values) > 1
-        ]
-
-
-def _put_counts(
-    indicator: Indicator,
-    parts: Iterable[tuple[frozenset[tuple[str, str]], int, str]],
-    totals: Iterable[tuple[frozenset[tuple[str, str]], int, str]],
-    names: _Names,
-    reading: Reading,
-) -> None:
-    counts = [
-        (Cell(indicator.sli, names.of(labels), minute), whole(value), 0)
-        for labels, minute, value in parts
-    ]
-    cells = set()
-    for labels, minute, value in totals:
-        cell = Cell(indicator.sli, names.of(labels), minute)
-        counts.append((cell, 0, whole(value)))
-        cells.add(cell)
-    sums = {cell: pair for cell, pair in summed(counts).items() if cell in cells}
-    amounts, too_many = amounts_of(sums)
-    reading.amounts.update(amounts)
-    reading.faults.extend(f"{c.source} {c.minute}: more than 10^9 events" for c in too_many)
-
-
-def _put_values(
-    indicator: Indicator,
-    values: Iterable[tuple[frozenset[tuple[str, str]], int, str]],
-    names: _Names,
-    reading: Reading,
-) -> None:
-    amounts: Amounts = {}
-    for labels, minute, text in values:
-        cell = Cell(indicator.sli, names.of(labels), minute)
-        number = _number(text)
-        if number is None:
-            continue
-        if cell in amounts:
-            reading.faults.append(f"{cell.source}: several series give one value")
-            return
-        if not 0 <= number <= (1 if indicator.ratio else MOST_VALUE):
-            reading.faults.append(f"{cell.source} {minute}: {text} is out of range")
-            continue
-        amounts[cell] = Amount.value(number)
-    reading.amounts.update(amounts)
-
-
-def _number(text: str) -> Optional[Decimal]:
-    """A value, None for one that is no number, as the quantile of nothing."""
-    number = Decimal(text)
-    return None if number.is_nan() else number

@@ -9,6 +9,7 @@ from typing import Optional, Protocol
 
 from slo_tools.answers import Batch, KeptRow, SampleRow
 from slo_tools.feed.cells import Amount, Cell
+from slo_tools.feed.history import TakenBack
 from slo_tools.feed.revisions import (
     MOST_REVISION,
     Kept,
@@ -17,7 +18,7 @@ from slo_tools.feed.revisions import (
     behind_superseded,
 )
 from slo_tools.office import ROWS_OF_A_BATCH
-from slo_tools.refusals import Conflict, Refusal, Unprocessable
+from slo_tools.refusals import Conflict, Foreign, Refusal, Unprocessable
 
 # A refused batch is sent again, so batches stay small where refusals are to be expected.
 SMALL_BATCH = 50
@@ -53,11 +54,13 @@ class Sender:
     """Sends rows until the office holds each of them or has refused it for good.
 
     `sent` tells what became of them, also where an exception ended the sending: NoAnswer, Full
-    or a refusal that concerns no row.
+    or a refusal that concerns no row; TakenBack where the office counts fewer entries than the
+    `entries` that it is known to have.
     """
 
-    def __init__(self, office: TakesSamples) -> None:
+    def __init__(self, office: TakesSamples, entries: int = 0) -> None:
         self._office = office
+        self._entries = entries
         self._has_rows_query = True
         self.sent = Sent()
 
@@ -77,8 +80,10 @@ class Sender:
             try:
                 answer = self._post(batch)
             except Conflict as refusal:
-                place = refusal.number("row") - 1
+                place = _place(refusal, batch)
                 kept = Kept(refusal.number("revision"), Amount.told(refusal.text("amount")))
+                if kept.revision != batch[place].revision:
+                    raise Foreign(refusal.status, f"a conflict of another revision: {refusal}")
                 self.sent.counts["conflict"] += 1
                 queue[place] = behind_conflict(batch[place], kept)
                 # The rows before it met no conflict, and go by themselves next.
@@ -95,7 +100,12 @@ class Sender:
         rows = [row.amount.row(row.cell, row.revision) for row in batch]
         answer = self._office.post_samples(rows)
         if answer.entry is not None:
+            if answer.entry < self._entries:
+                raise TakenBack(
+                    f"its newest entry is {answer.entry}, and it had {self._entries} already"
+                )
             self.sent.entry = answer.entry
+            self._entries = answer.entry + 1
         return answer
 
     def _taken(self, batch: list[Pending], answer: Batch) -> list[Pending]:
@@ -155,7 +165,7 @@ class Sender:
         self, queue: list[Pending], batch: list[Pending], refusal: Unprocessable
     ) -> list[Pending]:
         """The queue without what the office won't take for the reason that it gave."""
-        row = batch[refusal.number("row") - 1]
+        row = batch[_place(refusal, batch)]
         if refusal.word == "open_minute":
             self.sent.moment = refusal.number("moment")
             return [r for r in queue if r.cell.minute < self.sent.moment]
@@ -174,3 +184,11 @@ class Sender:
     def _drop(self, why: str, row: Pending) -> None:
         self.sent.counts[why] += 1
         self.sent.dropped.append((why, row))
+
+
+def _place(refusal: Refusal, batch: Sequence[Pending]) -> int:
+    """Which row of a batch a refusal names."""
+    row = refusal.number("row")
+    if not 1 <= row <= len(batch):
+        raise Foreign(refusal.status, f"the batch has no row {row}: {refusal}")
+    return row - 1

@@ -56,6 +56,8 @@ class Watch:
         )
         self._newest = gauge("slo_feed_newest_minute", "Newest minute that was sent", "sli")
         self._lag = gauge("slo_feed_lag_seconds", "Seconds since that minute's end", "sli")
+        self._faults = gauge("slo_feed_faults", "Faults of an indicator in the last round", "sli")
+        self._up = gauge("slo_feed_engine_up", "Whether an engine answered to the end", "engine")
         self._clock = gauge("slo_feed_clock_difference_seconds", "Engine minus here", "engine")
         self._left = gauge("slo_feed_cells_left", "Cells that the office has room for")
         self._days = gauge("slo_feed_days_until_full", "Days until then at today's pace")
@@ -73,6 +75,12 @@ class Watch:
     def newest(self, sli: str, minute: int, now: float) -> None:
         self._newest.labels(sli).set(minute)
         self._lag.labels(sli).set(now - (minute + 1) * 60)
+
+    def faults(self, sli: str, count: int) -> None:
+        self._faults.labels(sli).set(count)
+
+    def engine(self, name: str, is_up: bool) -> None:
+        self._up.labels(name).set(int(is_up))
 
     def clock(self, engine: str, difference: float) -> None:
         self._clock.labels(engine).set(difference)
