@@ -387,6 +387,31 @@ class Page(PastOffice):
                     self.assertEqual(sorted({min(after), max(after)}), row.told[number])
                     self.assertEqual(sorted({min(over), max(over)}), row.over[number])
 
+    def test_a_single_bad_slice_is_told_from_ten_minutes_on(self) -> None:
+        """And with `alertAfter` at the slice's width it isn't."""
+        rows = rows_of_the_page()
+        patient = {row.width: Own(row.own.window, "6", row.width) for row in rows}
+        text = SHOP + indicator("dark")
+        text += "".join(
+            {own.name: own.text() for row in rows for own in (row.own, patient[row.width])}.values()
+        )
+        for row in rows:
+            names = sorted({row.own.name, patient[row.width].name})
+            text += slo(f"slo-{row.width}", row.width, names)
+        self.define(text)
+        begins = {row.width: ORIGIN + 600 * n for n, row in enumerate(rows, 1)}
+        bad = {minute for width, begin in begins.items() for minute in range(begin, begin + width)}
+        end = ORIGIN + 600 * (len(rows) + 1)
+        self.send("dark", end, lambda minute: 0 if minute in bad else 1000)
+        for row in rows:
+            begin = begins[row.width]
+            pairs = [(f"slo-{row.width}", own.name) for own in (row.own, patient[row.width])]
+            own, waits = self.active(pairs, begin, begin + 300)
+            with self.subTest(width=row.width):
+                self.assertEqual(len(own), 1 if row.width >= 10 else 0)
+                if row.width > 1:
+                    self.assertEqual(waits, [])
+
     def test_slo_apply_takes_them_without_a_word(self) -> None:
         with tempfile.TemporaryDirectory(prefix="slo-tools-") as folder:
             rows = rows_of_the_page()
