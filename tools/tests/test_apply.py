@@ -511,6 +511,23 @@ class Applying(Folders):
         self.assertEqual((status, told[0]), (0, "+ SLO b"), faults)
         self.assertEqual(len(office.client().objects()[1]), 25)
 
+    def test_policies_and_sources_of_the_running_office_are_looked_at(self) -> None:
+        """Where the folder leaves to the office what its slices and queries have to fit."""
+        office = self.office()
+        policy = one_of_many(150).replace("lookbackWindow: 1h", "lookbackWindow: 9m")
+        indicator = web("Prometheus", "a_total", "b_total", "")
+        source, own = indicator.split("---\n")
+        self.write("all.yaml", f"{ONE_SERVICE % 's'}{policy}---\n{source}")
+        self.assertEqual(self.apply(office)[0], 0)
+        (self.folder / "all.yaml").unlink()
+        sliced = slo("a", "s", "web", op="      timeSliceTarget: 0.9\n      timeSliceWindow: 10m\n")
+        sliced = sliced.replace("Occurrences", "Timeslices") + "  alertPolicies: [policy-150]\n"
+        self.write("a.yaml", f"{own.replace('b_total', 'rate(b_total[1m])')}---\n{sliced}")
+        status, told, faults = self.apply(office, "--plan", "--with-office")
+        self.assertEqual((status, told, faults.splitlines()[-1]), (2, [], "slo-apply: 2 faults"))
+        self.assertIn("no_slice: policy-150 on objective 0: no whole slice of 10m", faults)
+        self.assertIn("unread_query: slo-feed won't read total of SLI web: rate(..)", faults)
+
     def test_an_indicator_with_samples_keeps_its_reading(self) -> None:
         shutil.copytree(UPSTREAM, self.folder, dirs_exist_ok=True)
         office = self.office()
