@@ -159,12 +159,16 @@ class Judging(Folders):
             ("isRolling: true", "isRolling: true\n    - duration: 7d\n      isRolling: true"): (
                 "spec.timeWindow: list_length: the list must have exactly 1 item, it has 2"
             ),
+            ("service: s\n", "service: shops\n"): (
+                "spec.service: unresolved: Service shops; did you mean shop?"
+            ),
+            ("service: s\n", "service: nowhere\n"): "spec.service: unresolved: Service nowhere",
             ("timeSliceWindow: 5m", "timeSliceWindow: 7m"): (
                 "out_of_range: it must be 1, 2, 3, 4, 5, 6, 10, 12, 15, 20, 30 or 60 minutes,"
                 " as 5 or 5m"
             ),
         }
-        self.write("s.yaml", ONE_SERVICE % "s" + SLI)
+        self.write("s.yaml", ONE_SERVICE % "s" + ONE_SERVICE % "shop" + SLI)
         for (old, new), wanted in refused.items():
             with self.subTest(new=new):
                 self.assertEqual(sound.count(old), 1)

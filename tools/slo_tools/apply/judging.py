@@ -9,13 +9,14 @@ from typing import Optional
 
 from slo_tools.apply.folder import Document, Folder, Told
 from slo_tools.apply.form import MOST_FAULTS, NAME, ZONE_NAME, ZONE_NAMES, faults_of, key_of
-from slo_tools.apply.hints import of_limit
+from slo_tools.apply.hints import nearest, of_limit
 from slo_tools.apply.scratch import Answer, Message, Scratch
 from slo_tools.nodes import Fault, Fields, Items, Node, Place, Scalar, items_at, node_at, text_at
-from slo_tools.openslo import BUILT_IN_POLICIES, KINDS_BY_REFERENCE, references_of
+from slo_tools.openslo import BUILT_IN_POLICIES, KINDS_BY_REFERENCE, Reference, references_of
 
 # A text of documents has at most 1,048,576 bytes.
 MOST_BYTES = 1_000_000
+MOST_COMPARED = 20
 
 Name = tuple[str, str]
 
@@ -185,8 +186,14 @@ class _Judge:
                     self._define_stand_in(reference.kind, reference.name, None)
                 if reference.name not in self.unread:
                     path = found.at(reference.path)
-                    why = f"{reference.kind} {reference.name}"
+                    why = f"{reference.kind} {reference.name}{self._nearest(reference)}"
                     self._tell(document, [Fault(reference.place, "unresolved", path, why)])
+
+    def _nearest(self, reference: Reference) -> str:
+        """The name that was meant; for the first faults alone, since it compares all names."""
+        if len(self.told) >= MOST_COMPARED:
+            return ""
+        return nearest(reference.name, [n for kind, n in self.known if kind == reference.kind])
 
     def _refused(self, document: Document, answer: Answer) -> None:
         members = answer.members
