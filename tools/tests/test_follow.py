@@ -4,6 +4,7 @@ refuse, and the program over a real office."""
 from __future__ import annotations
 
 import configparser
+import errno
 import json
 import os
 import random
@@ -15,6 +16,7 @@ from collections.abc import Callable, Sequence
 from dataclasses import dataclass, field
 from pathlib import Path
 from typing import Optional
+from unittest import mock
 
 from support import SHOP, TOP, message, needed, pipe, program, run_tool, running_office, until
 
@@ -405,6 +407,25 @@ class Held(unittest.TestCase):
         made = Following(Source(self.feed), "/bin/true", self.copy.path, SystemClock(), 24)
         with self.assertRaises(CopyFault):
             made.round()
+
+    def test_a_sync_that_failed_is_settled_by_an_opening(self) -> None:
+        self.office = [tick(500), tick(501)]
+        self.hold(self.office)
+        starts, counting = self.folder / "starts", self.folder / "counting"
+        counting.write_text(f'#!/bin/sh\necho start >> {starts}\nexec {program()} "$@"\n')
+        counting.chmod(0o755)
+        made = Following(Source(self.feed), str(counting), self.copy.path, SystemClock(), 24)
+        self.addCleanup(made.close)
+        made.open()
+        assert made._copy is not None
+        with mock.patch.object(made._copy, "sync", side_effect=OSError(errno.EIO, "EIO")):
+            with self.assertRaises(OSError):
+                made.round()
+        self.assertIsNone(made.state.all_came)
+        self.assertFalse(starts.exists())
+        self.assertEqual(made.round(), 0)
+        self.assertIsNotNone(made.state.all_came)
+        self.assertEqual(starts.read_text(), "start\n")
 
     def test_an_entry_that_may_not_follow_is_asked_for_twice(self) -> None:
         """A bit that flipped on the way once is no divergence; an entry that stays so is one."""

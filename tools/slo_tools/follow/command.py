@@ -146,6 +146,7 @@ class Run:
         self._is_whole = False
 
     def _for_ever(self) -> int:
+        LOG.info("the copy has %d entries", self.following.state.entries)
         self.following.start()
         every = pause = float(self.config.every)
         while True:
@@ -183,8 +184,10 @@ class Run:
         self._fault = text
 
     def _remember(self, is_news: bool) -> None:
-        self.following.remember(is_news)
-        self.watch.show(self.following.state)
+        try:
+            self.following.remember(is_news)
+        finally:
+            self.watch.show(self.following.state)
 
     def _had(self) -> str:
         state = self.following.state

@@ -39,6 +39,7 @@ class Following:
         self._copy: Optional[CopyFile] = None
         self._held: Optional[Held] = None
         self._written = 0.0
+        self._is_in_doubt = False
         self.state = State()
         self.after_comparison: Callable[[Path], None] = lambda journal: None
 
@@ -59,7 +60,7 @@ class Following:
             raise Damaged(
                 f"{self.journal} has {copy.entries} entries, and had {self.state.entries}"
             )
-        copy.sync()
+        self._sync(copy)
         self.state.entries = copy.entries
 
     def start(self) -> None:
@@ -74,6 +75,8 @@ class Following:
     def round(self) -> int:
         """Bring the copy to all that the office has; how many entries came."""
         begun = int(self._clock.now())
+        if self._is_in_doubt:
+            self._settle()
         copy = self._opened()
         before = copy.entries
         self._follower.look()
@@ -82,9 +85,24 @@ class Following:
         except NotTaken as fault:
             LOG.warning("the copy's program takes no entry: %s; it is asked for once more", fault)
             self._take_again(copy)
-        copy.sync()
+        self._sync(copy)
         self.state.entries, self.state.all_came = copy.entries, begun
         return copy.entries - before
+
+    def _sync(self, copy: CopyFile) -> None:
+        try:
+            copy.sync()
+        except OSError:
+            self._is_in_doubt = True
+            raise
+
+    def _settle(self) -> None:
+        """A sync that failed may have dropped what it couldn't write, and a later one doesn't tell:
+        the program's next opening writes it again, and syncs."""
+        self.close()
+        self._follower.start()
+        self._follower.end()
+        self._is_in_doubt = False
 
     def _take_all(self, copy: CopyFile) -> None:
         before: Optional[Feed] = None
