@@ -142,7 +142,8 @@ def differences(told: list[Told], wanted: list[Wanted], begin: float) -> list[st
         words = [each.status for each in came]
         if words != [each.status for each in due]:
             moments = [f"{each.status} at {each.moment - begin:.0f}: {each.text}" for each in came]
-            faults.append(f"{alert}: {[each.status for each in due]} wanted, {moments} came")
+            wants = [f"{each.status} from {each.first() - begin:.0f}" for each in due]
+            faults.append(f"{alert}: {wants} wanted, {moments} came")
             continue
         for each, word in zip(came, due):
             late = each.moment - word.first()
@@ -310,17 +311,18 @@ class ShortDay(Day):
         self.office("bank", bank, "payments")
         depot = self.web_objects() + NEVER + slo("parcels", "web", ["never"])
         self.office("depot", depot, "web", clock=True)
-        self.watch()
+        # It looks at single minutes, so it leaves slow rows more of each one.
+        self.watch("second = 45\n")
         self.begin_at(1)
         shop = self.offices["shop"].server
         acts = [
             Act(5, "web burst", self.traffic.burst),
             Act(10, "bank burst", lambda: self.traffic.pay(BURST, 500)),
             Act(70, "reset", self.exporter.reset),
-            Act(100, "shop killed", shop.kill),
-            Act(110, "shop back", shop.start),
+            Act(110, "shop killed", shop.kill),
+            Act(118, "shop back", shop.start),
             Act(58, "full", self.full),
-            Act(95, "room", self.disk.free),
+            Act(110, "room", self.disk.free),
         ]
         wanted = [
             Wanted("shop checkout quick", "firing", self.row("shop", "web", 0)),
@@ -328,7 +330,7 @@ class ShortDay(Day):
             Wanted("bank transfers quick", "firing", self.row("bank", "payments", 0)),
             Wanted("bank transfers quick", "resolved", self.row("bank", "payments", 1)),
         ]
-        self.live(acts, wanted, 165)
+        self.live(acts, wanted, 175)
         for office, indicator in (("shop", "web"), ("bank", "payments"), ("depot", "web")):
             self.nothing_is_lost(office, indicator)
         self.the_page_is_fresh()
