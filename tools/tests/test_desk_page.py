@@ -115,7 +115,9 @@ class Page(unittest.TestCase):
         self.assertTrue(of("mkdir page").endswith("status 0\n"))
         self.assertTrue(of("slo-notify --once", 0).endswith("status 0\n"))
         alerts = of("curl -s http://127.0.0.1:9193")
-        self.assertEqual(alerts.count("shop-answers, Good answers: workbook-"), 2)
+        self.assertEqual(alerts.count('"summary":"Answers of the shop (99.9% in 30d): burns '), 2)
+        for rule in ("(page above 14.4)", "(ticket above 1)"):
+            self.assertIn(f"{rule}. The budget is spent 500 times over.", alerts)
         self.assertIn("<title>", of("curl -s http://127.0.0.1:8081/page/ "))
         told = of("curl -s http://127.0.0.1:8081/page/overview.json")
         self.assertIn('"name":"shop-answers"', told)
