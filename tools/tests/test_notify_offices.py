@@ -76,7 +76,8 @@ class Answers(Several):
         spoilt = self.burning_office("spoilt")
         mutator = Mutator(spoilt.port, SEED)
         self.addCleanup(mutator.close)
-        rounds = self.several(mutator.address)
+        # No rows come while the long form runs.
+        rounds = self.several(mutator.address, more="timeout = 2\nstale = 1000")
         faults, rounds_made = 0, 0
         rounds.offices[0].watch.office.sleep = lambda seconds: None
         with self.subTest(seed=SEED):
