@@ -97,6 +97,18 @@ class Gate(unittest.TestCase):
         self.assertIn("workbook-page is breaching", told)
         self.assertEqual(self.gate(office, "ticket")[0], 0)
 
+    def test_wide_slices_have_data_of_late(self) -> None:
+        """No whole slice of an hour lies in the last half of one."""
+        wide = "budgetingMethod: Timeslices"
+        hours = "target: 0.99\n    timeSliceTarget: 0.9\n    timeSliceWindow: 60m"
+        text = slo("a", "workbook-ticket").replace("budgetingMethod: Occurrences", wide)
+        office = self.office(text.replace("target: 0.99", hours))
+        office.client().ask("POST", ["samples"], body=self.rows(150, 400, 1000))
+        status, told = self.gate(office, "a")
+        self.assertEqual((status, told.count("no data in the last 30 minutes")), (2, 1))
+        office.client().ask("POST", ["samples"], body=self.rows(1, 150, 1000))
+        self.assertEqual(self.gate(office, "a")[0], 0)
+
     def test_names_write_nothing_but_their_place_in_the_table(self) -> None:
         named = slo("a").replace("displayName: Answers", 'displayName: "x\u009b2J\u0085release"')
         office = self.office(named)

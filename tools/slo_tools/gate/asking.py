@@ -8,7 +8,7 @@ from typing import Optional
 
 from slo_tools import questions
 from slo_tools.answers import Budgets
-from slo_tools.freshness import excluded_age, exclusions_of
+from slo_tools.freshness import LONGEST, excluded_age, exclusions_of
 from slo_tools.gate.judging import (
     FREEZE,
     BadFreeze,
@@ -18,6 +18,7 @@ from slo_tools.gate.judging import (
     SloFacts,
     read_freeze,
 )
+from slo_tools.notify.slices import slice_width
 from slo_tools.objects import (
     BUILT_IN,
     Document,
@@ -185,11 +186,11 @@ class Asker:
 
     def _ask_states(self, asked: list[_Asked]) -> None:
         """The states of the alerts that page, and whether data is fresh."""
-        lookback = f"{self.stale}m"
         at = {each.name: each.budgets.at for each in asked if each.budgets is not None}
         objectives = [(each.name, found.number) for each in asked for found in each.objectives]
+        lookbacks = {each.name: self._lookbacks(each) for each in asked}
         burns = self.office.asked(
-            [questions.burn(slo, number, lookback, at[slo]) for slo, number in objectives]
+            [questions.burn(slo, n, lookbacks[slo][n], at[slo]) for slo, n in objectives]
         )
         for key, burn in zip(objectives, burns):
             told = burn.get()
@@ -211,6 +212,14 @@ class Asker:
             [questions.alerts(*binding, at[binding[0]], at[binding[0]]) for binding in bindings]
         )
         self._states = {key: outcome.get().state for key, outcome in zip(bindings, states)}
+
+    def _lookbacks(self, asked: _Asked) -> list[str]:
+        """How far back a slice with data has to lie, for each objective. The newest row may stand in
+        a slice that isn't over, so that the one before it is the newest that counts."""
+        assert asked.slo is not None
+        widths = [slice_width(asked.slo, objective.number) for objective in asked.objectives]
+        spans = [self.stale + (2 * width - 1 if width > 1 else 0) for width in widths]
+        return [f"{min(span, LONGEST)}m" for span in spans]
 
     def _facts(self, asked: _Asked) -> SloFacts:
         service = "" if asked.slo is None else asked.slo.service
