@@ -199,12 +199,16 @@ class _Incoming(io.RawIOBase):
 
     def __init__(self, link: socket.socket) -> None:
         self.end = 0.0
+        # Whether nothing is read just now: what is asked for is what has come already.
+        self.rests = False
         self._socket = link
 
     def readable(self) -> bool:
         return True
 
-    def readinto(self, room: Any) -> int:
+    def readinto(self, room: Any) -> Optional[int]:
+        if self.rests:
+            return None
         self._socket.settimeout(_left(self.end))
         return self._socket.recv_into(room)
 
@@ -246,11 +250,19 @@ class Link:
 
     def is_quiet(self) -> bool:
         """Whether the link can be used once more: it is open, and nothing came unasked."""
-        if self.is_ended:
+        if self.is_ended or self._has_more():
             return False
         door = select.poll()
         door.register(self._socket, select.POLLIN)
         return not door.poll(0)
+
+    def _has_more(self) -> bool:
+        """Whether bytes came behind the last answer."""
+        self._incoming.rests = True
+        try:
+            return bool(self._bytes.peek(1))
+        finally:
+            self._incoming.rests = False
 
     def send(self, data: bytes, end: float) -> None:
         try:

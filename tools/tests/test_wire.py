@@ -492,6 +492,21 @@ class TogetherTest(unittest.TestCase):
         with self.assertRaisesRegex(Foreign, "status 401"):
             wrong.asked([questions.notices()])[0].get()
 
+    def test_what_comes_unasked_is_no_answer(self) -> None:
+        """An answer too many on a kept link isn't taken for that of the next question."""
+        more = spelled(b'{"entries":1,"objects":[]}')
+
+        def twice(link: socket.socket, head: bytes) -> None:
+            link.sendall(spelled(NOTICES) + more)
+            link.recv(1)
+
+        with hostile(twice) as server:
+            client = Office(server.address, pauses=ONCE)
+            with client.kept_link():
+                self.assertEqual(client.notices(), [])
+                self.assertEqual(client.notices(), [])
+            self.assertEqual(len(server.heads), 2)
+
     def test_a_kept_link_that_was_closed_meanwhile_is_opened_anew(self) -> None:
         office = self.office()
         proxy = self.cutting(office)
