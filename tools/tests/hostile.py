@@ -135,8 +135,8 @@ class Cutting:
                 answer = office.recv(65_536 if room is None else min(room, 65_536))
                 if not answer:
                     break
-                link.sendall(answer)
                 self.came += len(answer)
+                link.sendall(answer)
                 room = None if room is None else room - len(answer)
             with suppress(OSError):
                 link.shutdown(socket.SHUT_RDWR)

@@ -297,6 +297,7 @@ class FormTest(unittest.TestCase):
             sum_ = ((sum_ ^ byte) * 0x100000001B3) & 0xFFFFFFFFFFFFFFFF
         self.assertEqual(fingerprint({"a": "b"}), f"{sum_:016x}")
         self.assertNotEqual(fingerprint({"a": "b"}), fingerprint({"b": "a"}))
+        self.assertEqual(fingerprint({"b": "1", "a": "2"}), fingerprint({"a": "2", "b": "1"}))
 
     def test_common_is_what_all_say(self) -> None:
         told = message_of([(alert(a="1"), None), (alert(b="1"), None)])

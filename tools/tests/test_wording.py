@@ -68,6 +68,9 @@ class SummaryTest(unittest.TestCase):
     def test_the_rule_that_holds_tells(self) -> None:
         slow = replace(HOT, burns={5: None, 30: Fraction(7), 60: Fraction(3), 360: Fraction(13, 2)})
         self.assertIn("burns 6.5 times too fast over 6h (page above 6)", summary(slow))
+        # The hour burns, and no longer these five minutes: that rule doesn't hold.
+        past = replace(slow, burns={**slow.burns, 5: Fraction(1), 60: Fraction(20)})
+        self.assertIn("burns 6.5 times too fast over 6h (page above 6)", summary(past))
         # None holds at this minute: the one that is nearest.
         nearly = replace(
             HOT, burns={5: Fraction(9), 60: Fraction(9), 30: Fraction(1), 360: Fraction(2)}
