@@ -231,6 +231,9 @@ class CarriedTest(Desk):
         self.assertEqual((told["runbook"], told["dash_board"]), ("http://wiki/shop", "http://d"))
         self.assertTrue(told["summary"].startswith("answers (99% in 30d): burns 20 times"), told)
         self.assertFalse([name for name in told if "stale" in name])
+        burns = {"1h": Fraction(91000, 3529), "3d": None}
+        told = annotations_of(catalogue, page, "breaching", 29_000_000, None, burns)
+        self.assertEqual((told["burn_1h"], told["burn_3d"]), ("25.7863", ""))
         told = annotations_of(catalogue, own, "breaching", 29_000_000, None, {"90m": Fraction(3)})
         self.assertEqual(told["runbook"], "http://wiki/own")
         self.assertIn("burns 3 times too fast over 90m (ticket from 2)", told["summary"])
