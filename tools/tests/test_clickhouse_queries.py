@@ -6,15 +6,23 @@ import re
 import unittest
 from collections.abc import Iterable, Mapping, Sequence
 from dataclasses import dataclass, field, replace
-from typing import Any, Optional
+from pathlib import Path
+from typing import Any, Optional, cast
 
-import support  # noqa: F401
+from engines import data_source, sli
+from simulated import HeldClock, SimulatedOffice
 
 from slo_tools.feed.cells import Amount, Cell
 from slo_tools.feed.clickhouse import ClickHouse, Table, merged
-from slo_tools.feed.engine import Form, Indicator, QueryFault, Reading, TooLarge
+from slo_tools.feed.config import Config, IndicatorConfig
+from slo_tools.feed.engine import Engine, Form, Indicator, QueryFault, Reading, TooLarge
 from slo_tools.feed.quiet import quiet_rows
 from slo_tools.feed.revisions import Kept
+from slo_tools.feed.rounds import End, Feed
+from slo_tools.feed.state import State
+from slo_tools.feed.watch import Watch
+from slo_tools.office import Office
+from slo_tools.settings import Login
 
 
 @dataclass
@@ -90,6 +98,38 @@ class QuietTest(unittest.TestCase):
         one = replace(made("a", "p", "t"), look_back=3)
         reading = Reading(amounts={Cell("a", "all", 10): Amount("1", 1)})
         self.assertEqual(quiet_rows(one, reading, {}), {})
+
+
+class QuietRounds(unittest.TestCase):
+    def test_a_quiet_quarter_of_an_hour_has_rows(self) -> None:
+        """Events come in the first of each twenty minutes."""
+        begin = 29_000_000
+        clock = HeldClock(begin * 60.0 + 20)
+
+        class Events:
+            def rows(self, query: str) -> Sequence[tuple[Any, ...]]:
+                if "now()" in query:
+                    return [(int(clock.seconds),)]
+                spans = re.findall(r"toDateTime\((\d+)\) AND at < toDateTime\((\d+)\)", query)
+                minutes = [m for b, e in spans for m in range(int(b) // 60, int(e) // 60)]
+                return [(minute, "", 3, 4) for minute in minutes if minute % 20 == 0]
+
+        texts = {
+            "DataSource/e": data_source("e", "ClickHouse", host="x", table="t", time="at"),
+            "SLI/a": sli("a", "e", "p", "t"),
+        }
+        office = SimulatedOffice(clock, texts, has_rows_query=True)
+        config = Config("", Login(), Path("s"), usual=IndicatorConfig(name="all", every=1), first=5)
+        engine = cast(Engine, ClickHouse(Events(), Table("events", "at")))
+        whole = cast(Office, office)
+        feed = Feed(config, whole, lambda _: engine, State(), clock, Watch(), save=False)
+        for _ in range(40):
+            clock.seconds += 60
+            self.assertEqual(feed.round(), End.DONE)
+        rows = {minute - begin: row for (_, _, minute), (_, row) in office.kept.items()}
+        self.assertEqual(sorted(rows), list(range(40)))
+        self.assertEqual({m for m, row in rows.items() if row == "3,4"}, {0, 20})
+        self.assertEqual({row for m, row in rows.items() if m % 20}, {"0,0"})
 
 
 class QueriesTest(unittest.TestCase):

@@ -9,6 +9,7 @@ import subprocess
 import tempfile
 import unittest
 from collections.abc import Sequence
+from dataclasses import replace
 from pathlib import Path
 from typing import Any, Optional, cast
 from unittest import mock
@@ -91,6 +92,13 @@ class Rounds(unittest.TestCase):
         self.clock.seconds = (BEGIN + 30) * 60.0 + 10
         self.feed.round()
         self.assertEqual(self.minutes(), list(range(29)))
+
+    def test_a_feed_begins_later_than_others_by_its_offices_address(self) -> None:
+        """Behind the scrape timeout of 10 s and a second, 0 to 10 s by the SHA-256 of it."""
+        for address, seconds in (("http://127.0.0.1:8082", 9), ("http://127.0.0.1:8083", 10)):
+            self.feed.config = replace(self.feed.config, office=address)
+            self.feed.round()
+            self.assertEqual(self.feed.behind(), 11 + seconds)
 
     def test_nothing_is_sent_where_nothing_changed(self) -> None:
         self.feed.round()

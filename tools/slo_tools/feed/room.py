@@ -14,6 +14,7 @@ from slo_tools.objects import Slo, conditions_of, map_of, slo_of
 from slo_tools.office import CELLS, UPGRADED_CELLS, Office
 from slo_tools.refusals import Members, NoAnswer, OfficeError
 from slo_tools.spelling import minutes_of_duration
+from slo_tools.told import is_pair
 
 # An office is begun anew, or renewed, once a month at most.
 MONTH = 31
@@ -77,12 +78,16 @@ def takes_five(indicator: Indicator, kind: str, needs: Needs) -> bool:
 
 def cells_of(office: Office, sli: str) -> int:
     """How many cells an office has room for, when it is empty."""
-    told = office.status()
-    if told is not None:
-        limit = told["cells"][1]
-        if isinstance(limit, int) and limit > 0:
-            return limit
+    told = pair_of(office.status(), "cells")
+    if told is not None and told[1] > 0:
+        return told[1]
     return UPGRADED_CELLS if office.is_upgraded(sli) else CELLS
+
+
+def pair_of(full: Optional[Members], key: str) -> Optional[tuple[int, int]]:
+    """A count and its limit, as an office says how full it is; None where it doesn't."""
+    value = (full or {}).get(key)
+    return (value[0], value[1]) if isinstance(value, list) and is_pair(value) else None
 
 
 def rows_a_day(indicator: Indicator, sources: int) -> float:
@@ -106,7 +111,7 @@ def pace_of(indicators: Iterable[Indicator], state: State) -> float:
 
 def room_left(full: Optional[Members], limits: tuple[int, int], state: State) -> int:
     """How many rows the office has room for: as it says, else by those that this feed made."""
-    if full is not None:
-        told = [full["cells"], full["accepted"]]
-        return int(min(limit - count for count, limit in told))
+    cells, accepted = pair_of(full, "cells"), pair_of(full, "accepted")
+    if cells is not None and accepted is not None:
+        return min(cells[1] - cells[0], accepted[1] - accepted[0])
     return min(limits[0] - state.made, limits[1] - state.accepted)

@@ -93,7 +93,7 @@ class Feed:
         return self._end
 
     def _passes(self, begin: Optional[int]) -> None:
-        for number in range(PASSES):
+        for _ in range(PASSES):
             try:
                 catalog = self._objects()
                 slis = {indicator.sli for indicator in catalog.indicators}
@@ -116,7 +116,8 @@ class Feed:
         for engine in self._engines.values():
             try:
                 waits.append(engine.settled())
-            except EngineError:
+            except Exception:
+                # What it says is told where it is read.
                 continue
         return (max(waits, default=15.0) + spread_of(self.config)) % MINUTE
 

@@ -16,7 +16,7 @@ from slo_tools.clock import date_of
 from slo_tools.feed.config import Config, IndicatorConfig
 from slo_tools.feed.engine import Engine, Indicator
 from slo_tools.feed.objects import Catalog, DataSource
-from slo_tools.feed.room import FIVE, Needs, cells_of, needs_of, pace_of, takes_five
+from slo_tools.feed.room import FIVE, Needs, cells_of, needs_of, pace_of, pair_of, takes_five
 from slo_tools.feed.state import State, Way
 from slo_tools.office import UPGRADED_CELLS, Office
 from slo_tools.refusals import NotFound
@@ -165,8 +165,8 @@ class Ways:
     def is_empty(self) -> bool:
         """Whether the office says that it has no rows."""
         if self._is_empty is None:
-            told = self.office.status()
-            self._is_empty = told is not None and told["cells"][0] == 0
+            told = pair_of(self.office.status(), "cells")
+            self._is_empty = told is not None and told[0] == 0
         return self._is_empty
 
     # Rows that stand in the office, where the state was lost
