@@ -205,13 +205,21 @@ class Traffic(threading.Thread):
         super().__init__(daemon=True)
         self.exporter, self.bank = exporter, bank
         self.over = threading.Event()
+        self.seconds = 0
+        self.faults: list[str] = []
 
     def run(self) -> None:
+        """What a second misses the next one has: a loaded machine may hold an insertion up."""
+        begun = time.monotonic()
         while not self.over.wait(1):
-            self.exporter.count('requests_total{code="200"}', RATE)
+            missed = int(time.monotonic() - begun) - self.seconds
+            self.seconds += missed
+            self.exporter.count('requests_total{code="200"}', RATE * missed)
             self.exporter.count('requests_total{code="500"}', 0)
-            if self.bank is not None:
-                self.pay(RATE, 200)
+            try:
+                self.pay(RATE * missed, 200)
+            except Exception as fault:
+                self.faults.append(f"{time.time():.0f}: {fault!r}")
 
     def burst(self) -> None:
         self.exporter.count('requests_total{code="500"}', BURST)

@@ -271,6 +271,7 @@ class Day(unittest.TestCase):
         faults = differences(self.pager.told, wanted, self.begin)
         logs = [self.notify.log, *(each.feed.log for each in self.offices.values())]
         said = "".join(f"\n== {log.parent.name}\n{log.read_text()[-1500:]}" for log in logs)
+        said += "".join(f"\n== traffic {fault}" for fault in self.traffic.faults)
         self.assertFalse(faults, "\n" + "\n".join(faults) + said)
 
     def nothing_is_lost(self, office: str, indicator: str) -> None:
