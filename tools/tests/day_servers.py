@@ -280,7 +280,8 @@ class PageServer(Child):
         text = text[:begin] + places + text[end:]
         text = text.replace("8081", str(self.port))
         text = text.replace("/usr/share/slo-office-tools/page/", f"{TOOLS}/page/")
-        (self.folder / "nginx.conf").write_text(text)
+        # Root runs the day, and its page may lie where nobody else may look.
+        (self.folder / "nginx.conf").write_text("user root;\n" + text)
         self._start(
             [server, "-p", str(self.folder), "-c", "nginx.conf"], self.folder, self.folder / "log"
         )
