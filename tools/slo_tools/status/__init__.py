@@ -1,0 +1,1 @@
+"""How all objectives of an office stand, in a terminal."""
