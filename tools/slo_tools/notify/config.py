@@ -51,6 +51,7 @@ class Config:
     state: Path
     overview: Optional[Path]
     metrics: Optional[tuple[str, int]]
+    sloth_names: bool
     offices: tuple[OfficeConfig, ...]
     receiver: ReceiverConfig
 
@@ -62,6 +63,7 @@ def read_config(path: Path) -> Config:
 
 def _config(table: Table, folder: Path) -> Config:
     receiver = _receiver(table, folder)
+    metrics = _metrics(table)
     config = Config(
         every=table.number("every", 60, 1, 3600),
         stale=table.number("stale", 10, 1, MOST_MINUTES),
@@ -75,7 +77,8 @@ def _config(table: Table, folder: Path) -> Config:
         link=table.text("link") or "",
         state=folder / table.wanted("state"),
         overview=table.file("overview", folder),
-        metrics=_metrics(table),
+        metrics=metrics,
+        sloth_names=_sloth_names(table, metrics),
         offices=_offices(table, folder),
         receiver=receiver,
     )
@@ -100,6 +103,15 @@ def _metrics(table: Table) -> Optional[tuple[str, int]]:
     if not host or not port.isdigit():
         raise table.fault("metrics", f"{text!r} is no address as 127.0.0.1:9464")
     return host, int(port)
+
+
+def _sloth_names(table: Table, metrics: Optional[tuple[str, int]]) -> bool:
+    is_wanted = table.truth("sloth_names")
+    if is_wanted and metrics is None:
+        raise table.fault(
+            "sloth_names", "names metrics, and none are offered: `metrics` is missing"
+        )
+    return is_wanted
 
 
 def _offices(table: Table, folder: Path) -> tuple[OfficeConfig, ...]:

@@ -4,6 +4,8 @@ from __future__ import annotations
 
 from prometheus_client import CollectorRegistry, Counter, Gauge, start_http_server
 
+from slo_tools.notify.budget_metrics import BudgetMetrics
+
 
 class Metrics:
     """The metrics, each by the name under which it is scraped."""
@@ -42,6 +44,8 @@ class Metrics:
         self.written = gauge("slo_notify_state_written", "Whether the state's file has all")
         self.clock = gauge("slo_notify_clock_trusted", "Whether this machine's clock is trusted")
         self.round = gauge("slo_notify_round_timestamp_seconds", "When the last round ended")
+        self.budgets = BudgetMetrics()
+        self.registry.register(self.budgets)
 
     def serve(self, host: str, port: int) -> None:
         start_http_server(port, addr=host, registry=self.registry)

@@ -16,6 +16,7 @@ from slo_tools.clock import Clock, minute_of
 from slo_tools.notify import own_alerts
 from slo_tools.notify.alerts import annotations_of, labels_of, link_of, lookbacks_of
 from slo_tools.notify.arrivals import Arrivals
+from slo_tools.notify.budget_metrics import lookbacks, samples_of
 from slo_tools.notify.clock_trust import ClockTrust, office_fault
 from slo_tools.notify.config import Config, OfficeConfig
 from slo_tools.notify.deciding import NO_DATA, QUIET, Binding, Decisions, Present
@@ -138,8 +139,9 @@ class OfficeRound:
             own = {key: alert for key, alert in state.own.items() if key != AWAY}
             own[CLOCK] = self._own(CLOCK, own_alerts.clock_fault(self.clock_fault))
             self._repeat(own, clock_fault)
-        if self.around.config.overview is not None:
-            watch.ask_views()
+        around = self.around.config
+        if around.overview is not None or around.metrics is not None:
+            watch.ask_views(lookbacks(around.sloth_names))
 
     def _say_faults(self) -> None:
         """What this office has that can't be read, a line for each."""
@@ -334,6 +336,11 @@ class OfficeRound:
     def _measure(self) -> None:
         name, watch, metrics = self.config.name, self.watch, self.around.metrics
         metrics.up.labels(name).set(self.fault is None)
+        if self.fault is None and self.around.config.metrics is not None:
+            sloth_names = self.around.config.sloth_names
+            metrics.budgets.show(name, samples_of(name, watch.at, watch.views, sloth_names))
+        else:
+            metrics.budgets.forget(name)
         metrics.open.labels(name).set(len(self.state.opened))
         metrics.waiting.labels(name).set(self.waiting)
         if watch.at is not None:

@@ -7,7 +7,7 @@ from typing import Any, Optional
 
 from slo_tools.notify.deciding import Binding
 from slo_tools.notify.state import OfficeState
-from slo_tools.notify.watching import ObjectiveView, SloView, Watch
+from slo_tools.notify.watching import LOOKBACKS, ObjectiveView, SloView, Watch
 from slo_tools.spelling import spelled_fraction
 
 VERSION = 1
@@ -80,7 +80,7 @@ def _objective_entry(slo: str, view: ObjectiveView, state: OfficeState) -> dict[
             for alert in view.alerts
         ],
         "burn": None if budget is None else spelled_fraction(budget.burn),
-        "burns": {name: spelled_fraction(burn) for name, burn in view.burns.items()},
+        "burns": {name: spelled_fraction(view.burns[name]) for name in LOOKBACKS},
         "den": None if budget is None else budget.den,
         "display": view.objective.display,
         "error": None if budget is None else spelled_fraction(budget.error),

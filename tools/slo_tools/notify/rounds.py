@@ -119,6 +119,7 @@ class Rounds:
         late = office.fault or "its answers take longer than half a round"
         self.told.say(f"office {office.config.name}", late)
         self.metrics.up.labels(office.config.name).set(0)
+        self.metrics.budgets.forget(office.config.name)
         office.entry = {**office.entry, "fault": late, "up": False}
         return False
 

@@ -258,23 +258,25 @@ class Watch:
         budget = budgets[objective] if objective < len(budgets) else None
         return budget, _burns_of(outcomes, lookbacks)
 
-    def ask_views(self) -> None:
-        """The numbers of all SLOs, for the overview."""
+    def ask_views(self, lookbacks: Sequence[str] = LOOKBACKS) -> None:
+        """The numbers of all SLOs, for the overview and the metrics."""
         slos = list(self.catalogue.slos.values())
         asked: list[Question[Any]] = []
         for slo in slos:
             asked.append(questions.budgets(slo.name, self.at))
             for objective in slo.objectives:
-                asked += _burns(slo.name, objective.number, self.at)
+                asked += _burns(slo.name, objective.number, self.at, lookbacks)
                 if self.at is not None:
                     asked += [
                         questions.alerts(slo.name, objective.number, policy, self.at, self.at)
                         for policy in slo.policies
                     ]
         outcomes: Iterator[Outcome[Any]] = iter(self.office.asked(asked))
-        self.views = [self._slo_view(slo, outcomes) for slo in slos]
+        self.views = [self._slo_view(slo, outcomes, lookbacks) for slo in slos]
 
-    def _slo_view(self, slo: Slo, outcomes: Iterator[Outcome[Any]]) -> SloView:
+    def _slo_view(
+        self, slo: Slo, outcomes: Iterator[Outcome[Any]], lookbacks: Sequence[str]
+    ) -> SloView:
         service = self.catalogue.services.get(slo.service)
         display = slo.service if service is None else service.display
         budgets, fault = _budgets_of(next(outcomes))
@@ -286,7 +288,7 @@ class Watch:
                 ObjectiveView(
                     objective,
                     budgets[objective.number] if known else None,
-                    _burns_of(outcomes),
+                    _burns_of(outcomes, lookbacks),
                     age,
                     age is None or age > self.catalogue.stale.get(slo.name, self.usual),
                     self._alert_views(slo, outcomes),
