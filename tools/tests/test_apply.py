@@ -14,8 +14,8 @@ from support import TOOLS, OfficeServer, program, run_tool, running_office
 from slo_tools.apply.folder import read_folder
 from slo_tools.apply.form import faults_of, key_of
 from slo_tools.apply.profile import written
-from slo_tools.apply.scratch import Message, Scratch
 from slo_tools.nodes import Items, Node, Scalar, node_at
+from slo_tools.past.scratch import Message, Scratch
 from slo_tools.yaml_reading import read_yaml
 
 NOW = int(time.time()) // 60

@@ -129,6 +129,10 @@ class Page(unittest.TestCase):
         self.assertIn("samples shop-answers: 60 newer", journal)
         self.assertIn("closed gate at", journal)
         self.assertNotIn("damaged", journal)
+        changes = of("slo-journal --changes")
+        self.assertIn("define Service shop", changes)
+        self.assertIn("+ SLO shop-month", changes)
+        self.assertNotIn("samples", changes)
 
 
 if __name__ == "__main__":

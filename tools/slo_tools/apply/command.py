@@ -23,11 +23,11 @@ from slo_tools.apply.planning import (
     sampled_by,
 )
 from slo_tools.apply.queries import query_faults
-from slo_tools.apply.scratch import ScratchFault
 from slo_tools.apply.slices import sights_of
 from slo_tools.apply.telling import fault_line, in_order, shown, tell, warning_line
 from slo_tools.office import Office, Pauses
 from slo_tools.office_options import add_office_options, office_of
+from slo_tools.past.scratch import ScratchFault
 from slo_tools.refusals import OfficeError
 
 DONE, DIFFERENT, FAULTY = 0, 1, 2

@@ -10,9 +10,9 @@ from typing import Optional
 from slo_tools.apply.folder import Document, Folder, Told
 from slo_tools.apply.form import MOST_FAULTS, NAME, ZONE_NAME, ZONE_NAMES, faults_of, key_of
 from slo_tools.apply.hints import nearest, of_limit
-from slo_tools.apply.scratch import Answer, Message, Scratch
 from slo_tools.nodes import Fault, Fields, Items, Node, Place, Scalar, items_at, node_at, text_at
 from slo_tools.openslo import BUILT_IN_POLICIES, KINDS_BY_REFERENCE, Reference, references_of
+from slo_tools.past.scratch import Answer, Message, Scratch
 
 # A text of documents has at most 1,048,576 bytes.
 MOST_BYTES = 1_000_000

@@ -12,11 +12,11 @@ from slo_tools.apply.folder import Zone
 from slo_tools.apply.form import slice_minutes
 from slo_tools.apply.judging import Name, calendar_zones, define, rank_of
 from slo_tools.apply.planning import Definition, Plan, Running, node_of, spelled
-from slo_tools.apply.scratch import Message, Scratch
 from slo_tools.apply.slices import SLICED
 from slo_tools.clock import date_of
 from slo_tools.nodes import Fields, Items, Node, Scalar, items_at, node_at, text_at
 from slo_tools.office import Office
+from slo_tools.past.scratch import Message, Scratch
 from slo_tools.questions import Question, path_of
 from slo_tools.questions import sums as sums_of
 from slo_tools.refusals import BadRequest, NotFound, Refusal

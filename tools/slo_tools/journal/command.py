@@ -29,6 +29,10 @@ from slo_tools.journal.history import Change, History
 from slo_tools.journal.mending import mending_of
 from slo_tools.journal.records import Entry
 from slo_tools.journal.sealing import SealFault, seal, verify
+from slo_tools.past.changes import told_changes
+from slo_tools.past.fronts import Damaged, NoFront, front_before, front_of
+from slo_tools.past.scratch import ScratchFault
+from slo_tools.whole_file import write_new
 
 SOUND, DAMAGED, FAILED = 0, 1, 2
 
@@ -57,6 +61,21 @@ def parser() -> argparse.ArgumentParser:
     task.add_argument(
         "--verify", metavar="SEALS", help="say whether the journal is as it was sealed"
     )
+    task.add_argument(
+        "--as-of",
+        metavar="DATE",
+        type=_minute,
+        help="with --write: the entries that were made before a date",
+    )
+    task.add_argument("--front", metavar="N", type=_count, help="with --write: the first N entries")
+    task.add_argument(
+        "--changes",
+        action="store_true",
+        help="print what people changed, with the differences of the objects' texts",
+    )
+    made.add_argument(
+        "--write", metavar="OUT", help="the file that these entries are written to as a journal"
+    )
     made.add_argument(
         "--open-gate",
         metavar="N",
@@ -81,6 +100,12 @@ def _minute(text: str) -> int:
         return minute_of_date(text)
     except ValueError as fault:
         raise argparse.ArgumentTypeError(str(fault)) from fault
+
+
+def _count(text: str) -> int:
+    if not (text.isascii() and text.isdigit() and len(text) <= 10):
+        raise argparse.ArgumentTypeError(f"{text} is no number of entries")
+    return int(text)
 
 
 @dataclass(frozen=True)
@@ -116,7 +141,11 @@ class Report:
 
 def main(words: Optional[list[str]] = None) -> int:
     """Reads, tells, and returns the exit status."""
-    options = parser().parse_args(words)
+    made = parser()
+    options = made.parse_args(words)
+    wants_front = options.as_of is not None or options.front is not None
+    if wants_front != (options.write is not None):
+        made.error("--as-of and --front want --write OUT, and --write wants one of them")
     if options.alone:
         options.program = None
     try:
@@ -127,6 +156,10 @@ def main(words: Optional[list[str]] = None) -> int:
         data = read_bytes(Path(options.file))
         if options.mend is not None:
             return _mend(data, options)
+        if wants_front:
+            return _write_front(data, options)
+        if options.changes:
+            return _tell_changes(data, options)
         report = report_of(data, options)
         lines = _json_of(report) if options.json else _lines_of(report, options)
         for line in lines:
@@ -136,16 +169,20 @@ def main(words: Optional[list[str]] = None) -> int:
     except BrokenPipeError:
         os.dup2(os.open(os.devnull, os.O_WRONLY), sys.stdout.fileno())
         return FAILED
-    except OSError as fault:
+    except (OSError, NoFront, ScratchFault) as fault:
         print(f"slo-journal: {fault}", file=sys.stderr)
         return FAILED
 
 
+def _log(options: argparse.Namespace) -> Log:
+    if options.log is None:
+        return Log(())
+    with open(options.log, encoding="utf-8", errors="replace") as file:
+        return Log(read_log(file))
+
+
 def report_of(data: bytes, options: argparse.Namespace) -> Report:
-    log = Log(())
-    if options.log is not None:
-        with open(options.log, encoding="utf-8", errors="replace") as file:
-            log = Log(read_log(file))
+    log = _log(options)
     history = History()
     lines: list[Line] = []
 
@@ -317,10 +354,38 @@ def _mend(data: bytes, options: argparse.Namespace) -> int:
             print(f"not mended: {mending.repair.text}; the office says: {judged}")
             return DAMAGED
     # A file that is there is never written over, the journal itself least of all.
-    with open(options.mend, "xb") as file:
-        file.write(mending.repair.content)
-        file.flush()
-        os.fsync(file.fileno())
+    write_new(Path(options.mend), mending.repair.content)
     print(f"{options.mend}: {mending.repair.text}")
     print(f"entries {mending.repair.entries}")
     return SOUND
+
+
+def _write_front(data: bytes, options: argparse.Namespace) -> int:
+    try:
+        wants_count = options.front is not None
+        front = front_of(data, options.front) if wants_count else front_before(data, options.as_of)
+    except Damaged as fault:
+        print(f"not written: {fault}")
+        return DAMAGED
+    judged = judged_by(options.program, front.content) if options.program is not None else ""
+    if judged:
+        print(f"not written: the office says: {judged}")
+        return DAMAGED
+    write_new(Path(options.write), front.content)
+    last = "" if front.last is None else f", the last one of {date_of(front.last)}"
+    print(f"{options.write}: entries {front.entries}{last}")
+    return SOUND
+
+
+def _tell_changes(data: bytes, options: argparse.Namespace) -> int:
+    if options.program is None:
+        raise OSError("--changes wants the office's program, which tells the objects' texts")
+    try:
+        told = told_changes(data, options.program, _log(options), options.begin, options.end)
+    except Damaged as fault:
+        print(fault)
+        return DAMAGED
+    for line in told.as_json() if options.json else told.lines():
+        print(line)
+    sys.stdout.flush()
+    return SOUND if told.damage is None else DAMAGED

@@ -28,6 +28,9 @@ class Damage:
     place: int
     why: str
 
+    def __str__(self) -> str:
+        return f"damaged at {self.place}: {self.why}"
+
 
 @dataclass(frozen=True)
 class Record:
@@ -67,6 +70,11 @@ class Broken(Exception):
     def __init__(self, damage: Damage) -> None:
         super().__init__(damage.why)
         self.damage = damage
+
+
+def header_of(origin: int) -> bytes:
+    """The header of a journal whose history begins at a minute."""
+    return b"\1" + LETTERS + origin.to_bytes(4, "big")
 
 
 def read_bytes(path: Path) -> bytes:
@@ -111,6 +119,15 @@ def record_behind(data: bytes, place: int) -> bytes:
     if place + 5 + length > len(data):
         raise Broken(Damage(place, f"the record has {length} bytes and runs past the file's end"))
     return data[place + 5 : place + 5 + length]
+
+
+def records_in(data: bytes) -> Iterator[tuple[int, bytes]]:
+    """Each record with the place of its gate, to the closed gate; no record is read. Raises Broken
+    where there is no closed gate."""
+    place = FIRST_GATE
+    while (record := framed(data, place)) is not None:
+        yield place, record
+        place += 5 + len(record)
 
 
 def entry_at(data: bytes, place: int, present: int, origin: int) -> Optional[tuple[Entry, int]]:

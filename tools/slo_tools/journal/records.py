@@ -8,6 +8,7 @@ from __future__ import annotations
 
 from collections.abc import Callable
 from dataclasses import dataclass
+from enum import IntEnum
 from struct import Struct
 from typing import NamedTuple, Optional, Union
 
@@ -33,12 +34,28 @@ KINDS = (
 LABEL_BYTES = frozenset(b"abcdefghijklmnopqrstuvwxyzABCDEFGHIJKLMNOPQRSTUVWXYZ0123456789._-")
 ZONE_BYTES = LABEL_BYTES | frozenset(b"/+")
 
+# A record begins with its moment and its kind.
+HEAD = Struct(">IB")
 NUMBER16 = Struct(">H")
 NUMBER32 = Struct(">I")
 NUMBER64 = Struct(">Q")
 COUNTS = Struct(">II")
 # Minute, revision, and the form of the amount that follows.
 ROW = Struct(">IIB")
+
+
+class Kind(IntEnum):
+    """What an entry changes, by the number in its record."""
+
+    DEFINITION = 1
+    REMOVAL = 2
+    ZONE = 3
+    SAMPLES = 4
+    EXCLUSION = 5
+    LIFTING = 6
+    TICK = 7
+    TAKING = 8
+    UPGRADE = 9
 
 
 class NotAnEntry(Exception):
@@ -221,15 +238,15 @@ def read_exclude(cursor: Cursor) -> Exclude:
 
 
 READERS: dict[int, Callable[[Cursor], Command]] = {
-    1: lambda cursor: Define(cursor.text(MAX_TEXT_BYTES)),
-    2: lambda cursor: Remove(read_kind(cursor), cursor.name()),
-    3: lambda cursor: PutZone(cursor.zone_name(), cursor.text(MAX_ZONE_BYTES)),
-    4: read_samples,
-    5: read_exclude,
-    6: lambda cursor: Lift(cursor.name()),
-    7: lambda cursor: Tick(),
-    8: lambda cursor: Take(cursor.number(NUMBER32, 2**32 - 1)),
-    9: lambda cursor: Upgrade(),
+    Kind.DEFINITION: lambda cursor: Define(cursor.text(MAX_TEXT_BYTES)),
+    Kind.REMOVAL: lambda cursor: Remove(read_kind(cursor), cursor.name()),
+    Kind.ZONE: lambda cursor: PutZone(cursor.zone_name(), cursor.text(MAX_ZONE_BYTES)),
+    Kind.SAMPLES: read_samples,
+    Kind.EXCLUSION: read_exclude,
+    Kind.LIFTING: lambda cursor: Lift(cursor.name()),
+    Kind.TICK: lambda cursor: Tick(),
+    Kind.TAKING: lambda cursor: Take(cursor.number(NUMBER32, 2**32 - 1)),
+    Kind.UPGRADE: lambda cursor: Upgrade(),
 }
 
 
@@ -246,3 +263,15 @@ def read_entry(record: bytes) -> Entry:
     if cursor.at < len(record):
         raise NotAnEntry(cursor.at, "bytes stand behind the entry")
     return Entry(moment, command)
+
+
+def definition_record(moment: int, text: bytes) -> bytes:
+    """The record of a definition."""
+    return HEAD.pack(moment, Kind.DEFINITION) + NUMBER32.pack(len(text)) + text
+
+
+def zone_record(moment: int, name: str, content: bytes) -> bytes:
+    """The record of a zone that is kept."""
+    label = name.encode("ascii")
+    front = HEAD.pack(moment, Kind.ZONE) + bytes([len(label)]) + label
+    return front + NUMBER32.pack(len(content)) + content
