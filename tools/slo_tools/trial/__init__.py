@@ -1,0 +1,1 @@
+"""slo-try: a changed folder tried over an office's past before it is applied."""
