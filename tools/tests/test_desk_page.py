@@ -126,7 +126,7 @@ class Page(unittest.TestCase):
         self.assertTrue(of("slo-notify --once", 1).endswith("[]\n\n"))
         self.assertEqual(of("grep -o"), '"remaining":"1/1"\n' * 2)
         tried = of("slo-try")
-        self.assertTrue(tried.endswith("status 1\n"), tried)
+        self.assertTrue(tried.endswith("status 0\n"), tried)
         self.assertIn("0.999 -> 0.9999", tried)
         self.assertRegex(tried, r"pages in hindsight: precision 0 of 0 -> 0 of 0, recall 0 of 1 ->")
         self.assertRegex(

@@ -283,6 +283,16 @@ class Told(Trying):
             f"pages in hindsight: precision {ways[0]} -> {ways[1]}, recall {recall}", lines
         )
 
+    def test_a_name_for_people_tells_the_same(self) -> None:
+        records, _, ticks = burst()
+        self.keep(records)
+        self.write(SHOP, slo("answers", "0.99").replace("Good answers", "Answers"))
+        run = self.run_try("--as-it-came")
+        self.assertEqual((run.returncode, run.stderr), (0, ""))
+        self.assertIn("~ SLO answers", run.stdout)
+        head = f"Notices as it came, at the ticks of {len(ticks)} of 360 minutes"
+        self.assertIn(head, run.stdout.splitlines())
+
     def test_days_are_those_before_the_last_entry(self) -> None:
         last = ORIGIN + 5 * 1440
         self.keep([define(ORIGIN, SHOP + slo("answers", "0.99")), tick(last)])
@@ -319,7 +329,6 @@ class Told(Trying):
         self.assertGreater(len(told["folder"]["as_it_came"]), 0)
 
     def test_an_office_that_runs_is_tried_and_stays_as_it_is(self) -> None:
-        records, _, _ = burst()
         with running_office(ORIGIN) as office:
             client = office.client()
             client.define((SHOP + slo("answers", "0.99")).encode())
@@ -327,8 +336,10 @@ class Told(Trying):
             self.write(SHOP, slo("answers", "0.995"))
             before = client.objects()[0]
             run = run_tool("slo-try", "--office", office.address, str(self.slos))
-            self.assertEqual((run.returncode, run.stderr), (1, ""))
+            # Without rows nothing is left of either budget, nor spent.
+            self.assertEqual((run.returncode, run.stderr), (0, ""))
             self.assertIn("0.99 -> 0.995", run.stdout)
+            self.assertIn("note: answers has no rows in its window", run.stdout)
             self.assertEqual(client.objects()[0], before)
             past = past_of_office(client)
             self.assertEqual(past, past_of_journal(office.folder / "office.journal"))

@@ -82,16 +82,16 @@ def notices_of(scratch: Scratch, catalogue: Catalogue) -> list[Sent]:
 
 
 def breaches_in(sent: Sequence[Sent], begin: int, end: int) -> list[Alert]:
-    """The notices of [begin, end] that an alert breaches. How long it went on isn't told, since a
+    """The notices behind `begin`, up to `end`, that an alert breaches. How long it went on isn't told, since a
     policy need not tell its end."""
     return [
         Alert(it.watched, it.at, it.at + 1)
         for it in sent
-        if it.state == "breaching" and begin <= it.at <= end
+        if it.state == "breaching" and begin < it.at <= end
     ]
 
 
 def ticked_minutes(past: Past, begin: int, end: int) -> int:
-    """How many minutes of [begin, end) have a tick."""
+    """How many minutes behind `begin`, up to `end`, have a tick."""
     ticks = (moment_of(it) for it in past.records if kind_of(it) is Kind.TICK)
-    return len({moment for moment in ticks if begin <= moment < end})
+    return len({moment for moment in ticks if begin < moment <= end})

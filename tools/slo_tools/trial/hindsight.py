@@ -36,10 +36,10 @@ class BudgetLeft:
 
     slo: str
     objective: int
-    # A name for people makes no other budget.
+    # Two budgets are told alike where the same is left of them.
     display: str = field(compare=False)
-    target: str
-    window: str
+    target: str = field(compare=False)
+    window: str = field(compare=False)
     remaining: Optional[Fraction]
     why: str = ""
 
