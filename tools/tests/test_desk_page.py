@@ -133,6 +133,10 @@ class Page(unittest.TestCase):
             tried, r"pages as it came: precision \d of \d -> \d of \d, recall 1 of 1 ->"
         )
         self.assertRegex(tried, r"failures +\S+ +60m +\d+m")
+        tuned = of("slo-tune").splitlines()
+        self.assertRegex(tuned[0], r"^POLICY +FALSE +failures$")
+        self.assertRegex(tuned[1], r"^workbook-page +0 +-$")
+        self.assertEqual(sum(line.startswith("above ") for line in tuned), 3)
         journal = of("slo-journal")
         self.assertIn("samples shop-answers: 60 newer", journal)
         self.assertIn("closed gate at", journal)

@@ -31,6 +31,25 @@ def parser() -> argparse.ArgumentParser:
     )
     made.add_argument("folder", metavar="FOLDER", type=Path, help="its .yaml, .yml and .json files")
     made.add_argument(
+        "--as-it-came",
+        action="store_true",
+        help="also tell the notices that would have been made then, with late rows and corrections",
+    )
+    made.add_argument("--prune", action="store_true", help="as if `slo-apply --prune` followed")
+    made.add_argument(
+        "--with-office",
+        action="store_true",
+        help="let the folder refer to objects that the office alone has",
+    )
+    made.add_argument("--json", action="store_true", help="print JSON in place of tables")
+    add_past_options(made)
+    add_office_options(made)
+    return made
+
+
+def add_past_options(made: argparse.ArgumentParser, incidents_wanted: bool = False) -> None:
+    """Which past is tried over, by which program, and against which incidents."""
+    made.add_argument(
         "--days",
         metavar="N",
         type=_days,
@@ -38,14 +57,10 @@ def parser() -> argparse.ArgumentParser:
         help="how many days before the last entry are told of (default: 30)",
     )
     made.add_argument(
-        "--as-it-came",
-        action="store_true",
-        help="also tell the notices that would have been made then, with late rows and corrections",
-    )
-    made.add_argument(
         "--incidents",
         metavar="FILE",
         type=Path,
+        required=incidents_wanted,
         help="lines NAME,SLO or SERVICE or *,FROM,TO of what people know was wrong",
     )
     made.add_argument(
@@ -55,13 +70,6 @@ def parser() -> argparse.ArgumentParser:
         default=60,
         help="how long behind an incident an alert may still begin for it (default: 60)",
     )
-    made.add_argument("--prune", action="store_true", help="as if `slo-apply --prune` followed")
-    made.add_argument(
-        "--with-office",
-        action="store_true",
-        help="let the folder refer to objects that the office alone has",
-    )
-    made.add_argument("--json", action="store_true", help="print JSON in place of tables")
     made.add_argument(
         "--journal",
         metavar="FILE",
@@ -72,10 +80,8 @@ def parser() -> argparse.ArgumentParser:
         "--program",
         metavar="SLO_OFFICE",
         default=os.environ.get("SLO_OFFICE_PROGRAM", "slo_office"),
-        help="the office's program, which tries the folder (default: slo_office)",
+        help="the office's program, which tells of the past (default: slo_office)",
     )
-    add_office_options(made)
-    return made
 
 
 def _days(text: str) -> int:
@@ -130,14 +136,15 @@ def _run(options: argparse.Namespace) -> int:
         as_it_came=options.as_it_came,
         incidents=options.incidents,
     )
-    trial = tried(_past(options), terms)
+    trial = tried(past_of(options), terms)
     for line in [json_of(trial, options.slack)] if options.json else lines_of(trial, options.slack):
         print(line)
     sys.stdout.flush()
     return SAME if trial.is_same else DIFFERENT
 
 
-def _past(options: argparse.Namespace) -> Past:
+def past_of(options: argparse.Namespace) -> Past:
+    """The past that the options name. Raises NotAPast, or OSError."""
     if options.journal is not None:
         return past_of_journal(options.journal)
     office = office_of(options, Pauses(tries=4, first=0.5, longest=4.0))

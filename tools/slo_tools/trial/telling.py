@@ -29,16 +29,16 @@ def lines_of(trial: Trial, slack: int) -> Iterator[str]:
     changes = list(differences_of(trial.now.catalogue.texts, trial.folder.catalogue.texts))
     yield from changes or ["nothing would be changed"]
     yield ""
-    yield from _table(list(_budget_rows(trial)))
+    yield from table(list(_budget_rows(trial)))
     yield ""
     yield "Alerts in hindsight, over what is known now"
-    yield from _table(list(_alert_rows(trial, trial.now.told.alerts, trial.folder.told.alerts)))
+    yield from table(list(_alert_rows(trial, trial.now.told.alerts, trial.folder.told.alerts)))
     now, folder = trial.now.as_it_came, trial.folder.as_it_came
     if now is not None and folder is not None:
         ticks = ticked_minutes(trial.past, trial.begin, trial.end)
         yield ""
         yield f"Notices as it came, at the ticks of {ticks} of {trial.end - trial.begin} minutes"
-        yield from _table(list(_notice_rows(trial, now, folder)))
+        yield from table(list(_notice_rows(trial, now, folder)))
     for severity in SEVERITIES if trial.incidents else ():
         yield ""
         yield from _quality_lines(trial, severity, slack)
@@ -53,7 +53,8 @@ def _head(trial: Trial) -> str:
     return f"{span}, {days:.3g} days, {len(trial.past.records)} entries"
 
 
-def _table(rows: Sequence[Row]) -> Iterator[str]:
+def table(rows: Sequence[Row]) -> Iterator[str]:
+    """Rows of cells, each column as wide as its widest cell."""
     widths = [max(len(row[column]) for row in rows) for column in range(len(rows[0]))]
     for row in rows:
         yield "  ".join(cell.ljust(width) for cell, width in zip(row, widths)).rstrip()
@@ -128,7 +129,7 @@ def _quality_lines(trial: Trial, severity: str, slack: int) -> Iterator[str]:
         count = len(old.detections)
         recall = f"{old.found} of {count} -> {new.found} of {count}"
         yield f"{severity}s {word}: precision {precision}, recall {recall}"
-        yield from _table(list(_incident_rows(old, new, word == HINDSIGHT)))
+        yield from table(list(_incident_rows(old, new, word == HINDSIGHT)))
 
 
 def _ways(trial: Trial) -> Iterator[tuple[str, tuple[list[Alert], list[Alert]]]]:

@@ -1,0 +1,1 @@
+"""slo-tune: which alert would have told best of known incidents, and which target a past kept."""
