@@ -32,6 +32,8 @@ class ReceiverConfig:
     kind: str
     address: str = ""
     login: Login = Login()
+    # Where people open Alertmanager's own pages; None where the page isn't to say.
+    link: Optional[str] = None
 
 
 @dataclass(frozen=True)
@@ -139,6 +141,9 @@ def _receiver(table: Table, folder: Path) -> ReceiverConfig:
         if kind == "alertmanager":
             address = address.rstrip("/")
         login = entry.login(folder)
+        link = None
+        if kind == "alertmanager" and "link" in entry.names():
+            link = entry.address("link").rstrip("/")
         entry.end()
-        return ReceiverConfig(kind, address, login)
+        return ReceiverConfig(kind, address, login, link)
     return ReceiverConfig("none")

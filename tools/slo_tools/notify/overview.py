@@ -6,8 +6,9 @@ import json
 from typing import Any, Optional
 
 from slo_tools.notify.deciding import Binding
+from slo_tools.notify.guidance import exact_decimal
 from slo_tools.notify.state import OfficeState
-from slo_tools.notify.watching import LOOKBACKS, ObjectiveView, SloView, Watch
+from slo_tools.notify.watching import LOOKBACKS, AlertView, ObjectiveView, SloView, Watch
 from slo_tools.spelling import spelled_fraction
 
 VERSION = 1
@@ -55,6 +56,8 @@ def _slo_entry(view: SloView, state: OfficeState) -> dict[str, Any]:
         "method": slo.method,
         "name": slo.name,
         "objectives": [_objective_entry(slo.name, each, state) for each in view.objectives],
+        "owner": view.owner,
+        "runbook": view.runbook,
         "service": slo.service,
         "service_display": view.service_display,
         "window": {
@@ -71,12 +74,7 @@ def _objective_entry(slo: str, view: ObjectiveView, state: OfficeState) -> dict[
     return {
         "age": view.age,
         "alerts": [
-            {
-                "policy": alert.policy,
-                "severity": alert.severity,
-                "since": _since(state, Binding(slo, view.objective.number, alert.policy)),
-                "state": alert.state,
-            }
+            _alert_entry(alert, _since(state, Binding(slo, view.objective.number, alert.policy)))
             for alert in view.alerts
         ],
         "burn": None if budget is None else spelled_fraction(budget.burn),
@@ -88,9 +86,32 @@ def _objective_entry(slo: str, view: ObjectiveView, state: OfficeState) -> dict[
         "num": None if budget is None else budget.num,
         "number": view.objective.number,
         "remaining": None if budget is None else spelled_fraction(budget.remaining),
+        "slice": view.slice,
         "stale": view.is_stale,
         "state": view.state,
         "target": view.objective.target,
+        "trend": view.trend,
+    }
+
+
+def _alert_entry(alert: AlertView, since: Optional[int]) -> dict[str, Any]:
+    guidance = alert.guidance
+    return {
+        "policy": alert.policy,
+        "runbook": guidance.runbook,
+        "severity": alert.severity,
+        "since": since,
+        "state": alert.state,
+        "tells": guidance.tells,
+        "terms": [
+            {
+                "burn": exact_decimal(rule.threshold),
+                "lookback": rule.windows[0],
+                "op": rule.op,
+                "short": rule.windows[1] if len(rule.windows) > 1 else None,
+            }
+            for rule in guidance.rules
+        ],
     }
 
 

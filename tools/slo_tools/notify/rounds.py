@@ -151,6 +151,7 @@ class Rounds:
             return
         notify: dict[str, Any] = {
             "clock": clock_fault,
+            "link": self.config.receiver.link,
             "receiver": self.receiver.kind,
             "receiver_fault": self.receiver_fault,
             "waiting": sum(office.waiting for office in self.offices),

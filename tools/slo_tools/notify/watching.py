@@ -14,7 +14,9 @@ from slo_tools.freshness import age_or_none, excluded_age, exclusions_of
 from slo_tools.notify.arrivals import Arrivals
 from slo_tools.notify.catalogue import Catalogue, read_catalogue
 from slo_tools.notify.deciding import NO_DATA, QUIET, Binding, Present
+from slo_tools.notify.guidance import OWNER, RUNBOOK, Guidance, guidance_of, text_of
 from slo_tools.notify.slices import holds_slice, last_holding, shortest_holding
+from slo_tools.notify.trends import Trends
 from slo_tools.objects import Objective, Slo
 from slo_tools.office import Office
 from slo_tools.origin import origin_of
@@ -53,6 +55,7 @@ class AlertView:
     policy: str
     severity: str
     state: str
+    guidance: Guidance = Guidance()
 
 
 @dataclass(frozen=True)
@@ -65,6 +68,8 @@ class ObjectiveView:
     age: Optional[int]
     is_stale: bool
     alerts: list[AlertView]
+    slice: int = 1
+    trend: Optional[dict[str, Any]] = None
 
     @property
     def state(self) -> str:
@@ -86,6 +91,8 @@ class SloView:
     service_display: str
     fault: Optional[str]
     objectives: list[ObjectiveView]
+    owner: Optional[str] = None
+    runbook: Optional[str] = None
 
 
 class Watch:
@@ -102,6 +109,7 @@ class Watch:
         self.entries: Optional[int] = None
         self.usage: Optional[dict[str, list[int]]] = None
         self.views: list[SloView] = []
+        self.trends = Trends()
         # Whether another office has taken the place of the one that was asked before.
         self.is_another = False
         self._exclusions: list[Any] = []
@@ -261,6 +269,8 @@ class Watch:
     def ask_views(self, lookbacks: Sequence[str] = LOOKBACKS) -> None:
         """The numbers of all SLOs, for the overview and the metrics."""
         slos = list(self.catalogue.slos.values())
+        if self.at is not None:
+            self.trends.ask(self.office, slos, self.at, self.origin)
         asked: list[Question[Any]] = []
         for slo in slos:
             asked.append(questions.budgets(slo.name, self.at))
@@ -292,9 +302,12 @@ class Watch:
                     age,
                     age is None or age > self.catalogue.stale.get(slo.name, self.usual),
                     self._alert_views(slo, outcomes),
+                    self.catalogue.width(slo.name, objective.number),
+                    self.trends.by_objective.get((slo.name, objective.number)),
                 )
             )
-        return SloView(slo, display, fault, objectives)
+        owner, runbook = (text_of((slo.document, service), keys) for keys in (OWNER, RUNBOOK))
+        return SloView(slo, display, fault, objectives, owner, runbook)
 
     def _alert_views(self, slo: Slo, outcomes: Iterator[Outcome[Any]]) -> list[AlertView]:
         views = []
@@ -303,7 +316,10 @@ class Watch:
             policy = self.catalogue.policies.get(name)
             if outcome.fault is None:
                 severity = "" if policy is None else policy.severity
-                views.append(AlertView(name, severity, outcome.get().state))
+                guidance = Guidance()
+                if policy is not None:
+                    guidance = guidance_of(policy.rules, policy.document)
+                views.append(AlertView(name, severity, outcome.get().state, guidance))
         return views
 
 
