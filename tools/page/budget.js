@@ -3,8 +3,8 @@
  * @module
  */
 
-import { ONE, ZERO, compare, divide, fraction, multiply, readTarget, rounded, subtract } from "./fractions.js";
-import { DAY } from "./minutes.js";
+import { ONE, ZERO, compare, divide, fraction, multiply, readTarget, roundedDown, subtract } from "./fractions.js";
+import { DAY, HOUR } from "./minutes.js";
 
 /** @typedef {import("./fractions.js").Fraction} Fraction */
 /** @typedef {import("./office.js").Sum} Sum */
@@ -36,14 +36,27 @@ export function minutesLeft({ remaining, burn, isRolling, elapsed }) {
 }
 
 /**
+ * How long a budget lasts, as people say it: `95 min`, `7 h`, `3.5 d`. Never longer than it does.
  * @param {Fraction | null} minutes
  * @returns {string}
  */
-export function daysText(minutes) {
+export function lastsText(minutes) {
   if (!minutes) return "doesn't end";
   if (minutes.num === 0n) return "spent";
+  if (compare(minutes, fraction(2 * HOUR, 1)) < 0) return `${roundedDown(minutes, 0)} min`;
+  if (compare(minutes, fraction(2 * DAY, 1)) < 0) return `${roundedDown(divide(minutes, fraction(HOUR, 1)), 0)} h`;
   const days = divide(minutes, fraction(DAY, 1));
-  if (compare(days, fraction(1, 10)) < 0) return `${rounded(minutes, 0)} min`;
   if (compare(days, fraction(1000, 1)) > 0) return "above 1,000 d";
-  return `${rounded(days, compare(days, fraction(10, 1)) < 0 ? 1 : 0)} d`;
+  const digits = compare(days, fraction(10, 1)) < 0 ? 1 : 0;
+  return `${roundedDown(days, digits).replace(/\.0$/, "")} d`;
+}
+
+/**
+ * The minutes until something that grows with time is full, at its pace since it began.
+ * @param {{used: number, limit: number, elapsed: number}} state
+ * @returns {Fraction | null} null where it doesn't grow
+ */
+export function minutesUntilFull({ used, limit, elapsed }) {
+  if (used <= 0 || elapsed <= 0) return null;
+  return divide(fraction(BigInt(Math.max(0, limit - used)) * BigInt(elapsed), 1), fraction(used, 1));
 }

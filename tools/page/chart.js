@@ -6,7 +6,8 @@
 /** @typedef {import("./minutes.js").Zone} Zone */
 /** @typedef {{x: number, y: number | null, exact: string}} Point y null leaves a gap */
 /**
- * @typedef {{label: string, color: string, points: Point[], stepped?: boolean, fill?: boolean, bar?: boolean}} Series
+ * @typedef {{label: string, color: string, points: Point[], stepped?: boolean, fill?: boolean, bar?: boolean,
+ *   dash?: number[]}} Series
  */
 /** @typedef {{from: number, to: number, label: string}} Shade */
 /**
@@ -114,7 +115,7 @@ const laneNames = (lanes) => ({
 });
 
 /** @param {Series} series */
-function dataset({ label, color, points, stepped = false, fill = false, bar = false }) {
+function dataset({ label, color, points, stepped = false, fill = false, bar = false, dash = [] }) {
   return {
     label,
     data: points,
@@ -124,6 +125,7 @@ function dataset({ label, color, points, stepped = false, fill = false, bar = fa
     stepped,
     borderWidth: bar ? BAR_WIDTH : 2,
     borderCapStyle: "butt",
+    borderDash: dash,
     pointRadius: 0,
     pointHitRadius: 8,
     pointHoverRadius: bar ? 0 : 4,

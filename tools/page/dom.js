@@ -37,14 +37,23 @@ export function present(list) {
  * @param {{caption: string, classes?: string, headers: string[], rows: HTMLElement[], hasHint?: boolean}} parts
  * @returns {HTMLElement}
  */
-export function table({ caption, classes = "", headers, rows, hasHint = false }) {
+export function table({ rows, ...parts }) {
+  return tableOf({ ...parts, bodies: [element("tbody", { role: "rowgroup" }, ...rows)] });
+}
+
+/**
+ * The same around bodies that stand already.
+ * @param {{caption: string, classes?: string, headers: string[], bodies: HTMLElement[], hasHint?: boolean}} parts
+ * @returns {HTMLElement}
+ */
+export function tableOf({ caption, classes = "", headers, bodies, hasHint = false }) {
   const heads = headers.map((text) => element("th", { scope: "col", role: "columnheader" }, text));
   return element(
     "table",
     { class: classes, role: "table" },
     element("caption", {}, caption, hasHint ? keysHint() : null),
     element("thead", { role: "rowgroup" }, element("tr", { role: "row" }, ...heads)),
-    element("tbody", { role: "rowgroup" }, ...rows),
+    ...bodies,
   );
 }
 

@@ -3,12 +3,24 @@
  * @module
  */
 
-/** @typedef {{policy: string, severity: string, state: string, since: number?}} AlertEntry */
+/**
+ * `op` is OpenSLO's word, lookbacks are minutes.
+ * @typedef {{lookback: number, short: number?, op: string, burn: string}} TermEntry
+ */
+/**
+ * What an older slo-notify doesn't tell is undefined.
+ * @typedef {{
+ *   policy: string, severity: string, state: string, since: number?, tells?: boolean,
+ *   runbook?: string?, terms?: TermEntry[],
+ * }} AlertEntry
+ */
+/** @typedef {{to: number, step: number, burns: (number | null)[]}} TrendEntry */
 /**
  * @typedef {{
  *   number: number, display: string, target: string, from: number?, num: number?, den: number?,
  *   error: string?, burn: string?, remaining: string?, burns: Record<string, string?>,
- *   age: number?, stale: boolean, state: string, alerts: AlertEntry[],
+ *   age: number?, stale: boolean, state: string, alerts: AlertEntry[], slice?: number,
+ *   trend?: TrendEntry?,
  * }} ObjectiveEntry
  */
 /** @typedef {{duration: string, rolling: boolean, start: string?, zone: string}} WindowEntry */
@@ -16,6 +28,7 @@
  * @typedef {{
  *   name: string, display: string, service: string, service_display: string, description: string,
  *   indicator: string, method: string, window: WindowEntry, fault: string?, objectives: ObjectiveEntry[],
+ *   owner?: string?, runbook?: string?,
  * }} SloEntry
  */
 /**
@@ -24,7 +37,11 @@
  *   entries: number?, usage: Record<string, [number, number]>?, slos: SloEntry[],
  * }} OfficeEntry
  */
-/** @typedef {{clock: string?, receiver: string, receiver_fault: string?, waiting: number}} NotifyEntry */
+/**
+ * @typedef {{
+ *   clock: string?, receiver: string, receiver_fault: string?, waiting: number, link?: string?,
+ * }} NotifyEntry
+ */
 /**
  * @typedef {{
  *   version: number, written: number, second: number, every: number, notify: NotifyEntry,

@@ -3,6 +3,7 @@
  * @module
  */
 
+export const HOUR = 60;
 export const DAY = 1440;
 
 /**
@@ -98,16 +99,40 @@ export class Zone {
   }
 
   /**
-   * The minute at which a day begins: where its midnight stands twice the earlier one, where the
-   * clock passes over it the first minute behind.
+   * The minute at which a day begins.
    * @param {CivilDate} date days and months may lie outside their range
    */
   startOf(date) {
-    const midnight = Date.UTC(date.year, date.month - 1, date.day) / 60_000;
-    const before = midnight - (this.civil(midnight - DAY) - (midnight - DAY));
-    const after = midnight - (this.civil(midnight + DAY) - (midnight + DAY));
-    const found = [before, after].filter((minute) => this.civil(minute) === midnight);
+    return this.minuteAt(Date.UTC(date.year, date.month - 1, date.day) / 60_000);
+  }
+
+  /**
+   * The minute of a civil time; where it stands twice the earlier one, where the clock passes over
+   * it the first minute behind.
+   * @param {number} civil as if it were one of UTC
+   */
+  minuteAt(civil) {
+    const before = civil - (this.civil(civil - DAY) - (civil - DAY));
+    const after = civil - (this.civil(civil + DAY) - (civil + DAY));
+    const found = [before, after].filter((minute) => this.civil(minute) === civil);
     return found.length ? Math.min(...found) : before;
+  }
+
+  /**
+   * @param {number} minute
+   * @returns {string} its civil time as `2026-11-29T14:20`
+   */
+  spelled(minute) {
+    return new Date(this.civil(minute) * 60_000).toISOString().slice(0, 16);
+  }
+
+  /**
+   * @param {string} text as `2026-11-29T14:20`
+   * @returns {number?} its minute, null where it is no date
+   */
+  read(text) {
+    const time = /^\d{4}-\d\d-\d\dT\d\d:\d\d$/.test(text) ? Date.parse(`${text}Z`) : NaN;
+    return Number.isNaN(time) ? null : this.minuteAt(time / 60_000);
   }
 }
 
@@ -129,7 +154,7 @@ export function zoneOf(name) {
  * @param {number} minutes
  */
 export function spanText(minutes) {
-  if (minutes < 120) return `${minutes} min`;
-  if (minutes < 2 * DAY) return `${Math.floor(minutes / 60)} h`;
+  if (minutes < 2 * HOUR) return `${minutes} min`;
+  if (minutes < 2 * DAY) return `${Math.floor(minutes / HOUR)} h`;
   return `${Math.floor(minutes / DAY)} d`;
 }

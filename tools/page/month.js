@@ -7,7 +7,8 @@ import { burnOf } from "./budget.js";
 import { countsText } from "./cells.js";
 import { element, keysHint, present, row, say, section, table } from "./dom.js";
 import { exactNumber } from "./exact.js";
-import { ONE, burnText, compare, fraction, percent, spell, subtract } from "./fractions.js";
+import { ONE, burnText, compare, divide, fraction, leftText, multiply, percent, spell } from "./fractions.js";
+import { readTarget, subtract } from "./fractions.js";
 import { spanText, zoneOf } from "./minutes.js";
 import { Office, askEach } from "./office.js";
 import { monthPlace, sloPlace } from "./routes.js";
@@ -89,22 +90,36 @@ async function askMonth(office, { slo, objective }, days) {
 }
 
 /**
- * A day's cell: its date, the part that was good, the burn.
- * @param {{day: number, weekday: number}} date a weekday counts from Monday, 0
- * @param {Sum | undefined} sum
+ * How much of the month's budget a day took: what failed in it, of what may fail in the month.
+ * @param {Sum} sum
+ * @param {Sum} whole the month's
  * @param {string} target
  */
-function dayCell({ day, weekday }, sum, target) {
+export function tookOf(sum, whole, target) {
+  const budget = multiply(subtract(ONE, readTarget(target)), fraction(whole.den, 1));
+  return divide(fraction(sum.den - sum.num, 1), budget);
+}
+
+/**
+ * A day's cell: its date, the part that was good, how much of the month's budget it took.
+ * @param {{day: number, weekday: number}} date a weekday counts from Monday, 0
+ * @param {Sum | undefined} sum
+ * @param {Sum} whole the month's
+ * @param {string} target
+ */
+function dayCell({ day, weekday }, sum, whole, target) {
   const burn = sum ? burnOf(sum, target) : null;
   const date = element("b", {}, element("span", { class: "weekday" }, `${WEEKDAYS[weekday].slice(0, 3)} `), day);
   if (!sum || !burn) return element("td", { class: "day", role: "cell" }, date, element("small", {}, "no data"));
   const grade = compare(burn, ONE) > 0 ? "above" : "within";
+  const took = whole.den ? tookOf(sum, whole, target) : null;
+  const exact = `took of the month's budget: ${took && spell(took)}; burn: ${spell(burn)}`;
   return element(
     "td",
     { class: `day ${grade}`, role: "cell" },
     date,
     exactNumber(percent(fraction(sum.num, sum.den), GOOD_DIGITS), `good: ${countsText(sum)}`),
-    element("small", {}, "burn ", exactNumber(burnText(burn), `burn: ${spell(burn)}`)),
+    took ? element("small", {}, "took ", exactNumber(percent(took), exact)) : null,
   );
 }
 
@@ -121,7 +136,7 @@ function calendar({ year, month }, told, target) {
   const cells = [
     ...Array.from({ length: before }, emptyCell),
     ...Array.from({ length: count }, (_, index) =>
-      dayCell({ day: index + 1, weekday: (before + index) % 7 }, told.days.get(index + 1), target),
+      dayCell({ day: index + 1, weekday: (before + index) % 7 }, told.days.get(index + 1), told.whole, target),
     ),
   ];
   while (cells.length % 7) cells.push(emptyCell());
@@ -134,7 +149,7 @@ function calendar({ year, month }, told, target) {
   return element(
     "table",
     { class: "calendar", role: "table" },
-    element("caption", {}, "Each day: the part that was good, and its burn.", keysHint()),
+    element("caption", {}, "Each day: the part that was good, and how much of the month's budget it took.", keysHint()),
     element("thead", { role: "rowgroup" }, element("tr", { role: "row" }, ...heads)),
     element("tbody", { role: "rowgroup" }, ...weeks),
   );
@@ -153,7 +168,7 @@ function wholeFacts(sum, target) {
     ["Good", exactNumber(percent(good, GOOD_DIGITS), `good: ${spell(good)}`, true)],
     ["Target", target],
     ["Burn", exactNumber(burnText(burn), `burn: ${spell(burn)}`, true)],
-    ["Budget left", exactNumber(percent(left), `budget left: ${spell(left)}`, true)],
+    ["Budget left", exactNumber(leftText(left), `budget left: ${spell(left)}`, true)],
   ];
   const items = facts.map(([name, value]) => element("div", {}, element("dt", {}, name), element("dd", {}, value)));
   return element("dl", { class: "facts" }, ...items);
@@ -162,8 +177,9 @@ function wholeFacts(sum, target) {
 /**
  * @param {Told} told
  * @param {Zone} zone
+ * @param {boolean} isWatched whether it has alerts
  */
-function happenings(told, zone) {
+function happenings(told, zone, isWatched) {
   const headers = ["From", "To", "What", "Lasted"];
   const alerts = told.alerts.map(({ policy, from, to }) => ({ from, to, what: `alert ${policy}` }));
   const exclusions = (told.exclusions ?? []).map(({ id, from, to }) => ({ from, to, what: `excluded by ${id}` }));
@@ -175,7 +191,7 @@ function happenings(told, zone) {
     "Alerts and exclusions",
     rows.length
       ? table({ caption: "By their begin", classes: "plain", headers, rows })
-      : element("p", {}, "No alert was active in this month."),
+      : element("p", {}, isWatched ? "No alert was active in this month." : "No alerts are defined: nobody was told."),
     told.exclusions ? null : element("p", { class: "left-out" }, leftOut),
   );
 }
@@ -232,7 +248,7 @@ export async function monthView(place, wanted, signal, put) {
       note,
       section("The month", wholeFacts(told.whole, objective.target)),
       section("Day by day", calendar(month, told, objective.target), midnights),
-      happenings(told, zone),
+      happenings(told, zone, objective.alerts.length > 0),
     ]),
   );
   say(`${nameOf(month)}, counted up to ${zone.full(end)}`);

@@ -1,11 +1,12 @@
 /**
- * The notices that wait in the offices. slo-notify takes them once its receiver has them.
+ * All alerts that are open, and the notices that wait in the offices.
  * @module
  */
 
-import { element, row, say, section, table } from "./dom.js";
+import { element, row, say, table } from "./dom.js";
 import { zoneOf } from "./minutes.js";
 import { Office, OfficeFault } from "./office.js";
+import { openOnes, openSection } from "./open.js";
 import { sloPlace } from "./routes.js";
 
 /** @typedef {import("./file.js").OfficeEntry} OfficeEntry */
@@ -30,25 +31,37 @@ function noticesTable(office, notices) {
 }
 
 /**
+ * @param {string} name
+ * @param {HTMLElement} child
+ */
+const part = (name, child) => element("section", {}, element("h3", {}, name), child);
+
+/**
  * @param {import("./file.js").Overview} overview
  * @param {AbortSignal} signal
  * @param {(parts: HTMLElement[]) => void} put
  */
 export async function noticesView(overview, signal, put) {
-  const head = element("h1", { tabindex: -1 }, "Notices that wait");
+  const open = openOnes(overview);
+  const head = [
+    element("h1", { tabindex: -1 }, "Alerts"),
+    openSection(overview, signal, open, open.length),
+    element("h2", {}, "Notices that wait"),
+    element("p", {}, "What slo-notify hasn't passed on yet. It takes each notice once the receiver has heard of it."),
+  ];
   const rest = element("div");
-  put([head, rest]);
+  put([...head, rest]);
   say("Loading notices …", "busy");
   let failed = 0;
   const parts = await Promise.all(
     overview.offices.map(async (entry) => {
       try {
         const office = new Office(entry, signal);
-        return section(entry.name, noticesTable(entry, await office.notices()));
+        return part(entry.name, noticesTable(entry, await office.notices()));
       } catch (fault) {
         if (!(fault instanceof OfficeFault)) throw fault;
         failed += 1;
-        return section(entry.name, element("p", { class: "trouble" }, `Not known: ${fault.message}`));
+        return part(entry.name, element("p", { class: "trouble" }, `Not known: ${fault.message}`));
       }
     }),
   );

@@ -7,6 +7,9 @@ import { burnOf } from "./budget.js";
 import { colour, draw } from "./chart.js";
 import { element } from "./dom.js";
 import { burnText, fraction, percent, readFraction, spell, toNumber } from "./fractions.js";
+import { spanText } from "./minutes.js";
+import { PAGE, gravityOf } from "./states.js";
+import { aboveText, lookbackText, severityText, thresholdOf } from "./terms.js";
 
 /** @typedef {import("./series.js").Told} Told */
 /** @typedef {import("./minutes.js").Zone} Zone */
@@ -18,12 +21,14 @@ const LANE_HEIGHT = 44;
 // A bar is at least this part of the axis.
 const MOST_BARS = 150;
 const LONG_TICK = 10_000;
-const CAPTIONS = {
-  remaining: "Budget left, in the window up to each minute",
-  burn: "Burn rate of each step",
-  events: "Good and total of each step",
-  alerts: "When alerts were active",
-};
+
+/** @param {Told} told */
+const captions = ({ step }) => ({
+  remaining: `Budget left, in the window up to each minute, by steps of ${spanText(step)}`,
+  burn: `Burn rate of each step of ${spanText(step)}`,
+  events: `Good and total of each step of ${spanText(step)}`,
+  alerts: "When alerts were active, to the minute",
+});
 
 /** @type {{destroy: () => void}[]} */
 let drawn = [];
@@ -37,11 +42,12 @@ export function panels(told) {
   /** @type {Subject[]} */
   const subjects = told.alerts.length ? ["remaining", "burn", "events", "alerts"] : ["remaining", "burn", "events"];
   return subjects.map((subject) => {
-    const label = `${CAPTIONS[subject]}; its numbers stand in the tables below`;
+    const caption = captions(told)[subject];
+    const label = `${caption}; its numbers stand in the tables below`;
     const canvas = /** @type {HTMLCanvasElement} */ (element("canvas", { role: "img", "aria-label": label }));
     const place = element("div", { class: `canvas ${subject}` }, canvas);
     if (subject === "alerts") place.style.height = `${told.alerts.length * LANE_HEIGHT + 48}px`;
-    return { subject, canvas, figure: element("figure", {}, element("figcaption", {}, CAPTIONS[subject]), place) };
+    return { subject, canvas, figure: element("figure", {}, element("figcaption", {}, caption), place) };
   });
 }
 
@@ -49,16 +55,16 @@ export function panels(told) {
  * Draws the figures, which have to stand in the page.
  * @param {Panel[]} figures
  * @param {Told} told
- * @param {string} target
+ * @param {import("./file.js").ObjectiveEntry} objective
  * @param {Zone} zone
  */
-export async function drawPanels(figures, told, target, zone) {
+export async function drawPanels(figures, told, objective, zone) {
   clearPanels();
   const shades = (told.exclusions ?? []).map(({ from, to, id }) => ({ from, to, label: id }));
   const least = (told.to - told.from) / MOST_BARS;
   const parts = {
     remaining: { series: [remainingSeries(told)], least: 0, most: 1, unit: percentTick },
-    burn: { series: burnSeries(told, target), least: 0, most: 1, unit: tick },
+    burn: { series: burnSeries(told, objective), least: 0, most: 1, unit: tick },
     events: { series: eventSeries(told), least: 0, most: 1, unit: tick },
     alerts: {
       series: told.alerts.map((alert, lane) => alertSeries(alert, lane, least)),
@@ -118,10 +124,10 @@ function stepped(told, value) {
 
 /**
  * @param {Told} told
- * @param {string} target
+ * @param {import("./file.js").ObjectiveEntry} objective
  * @returns {Series[]}
  */
-function burnSeries(told, target) {
+function burnSeries(told, { target, alerts }) {
   const points = stepped(told, (sum) => {
     const burn = burnOf(sum, target);
     if (!burn) return { y: null, exact: "none" };
@@ -129,9 +135,25 @@ function burnSeries(told, target) {
   });
   const even = [told.from, told.to].map((x) => ({ x, y: 1, exact: spell(fraction(1, 1)) }));
   return [
-    { label: "Burn", color: colour("bad"), points, stepped: true },
+    { label: "Burn", color: colour("accent"), points, stepped: true, fill: true },
     { label: "Spends the budget in one window", color: colour("faint"), points: even },
+    ...alerts.flatMap((alert) => (alert.terms ?? []).flatMap((term) => thresholdSeries(told, alert, term))),
   ];
+}
+
+/**
+ * A line at the burn rate from which a policy alerts.
+ * @param {Told} told
+ * @param {import("./file.js").AlertEntry} alert
+ * @param {import("./file.js").TermEntry} term
+ * @returns {Series[]}
+ */
+function thresholdSeries(told, alert, term) {
+  const value = thresholdOf(term.burn);
+  if (!value) return [];
+  const points = [told.from, told.to].map((x) => ({ x, y: toNumber(value), exact: term.burn }));
+  const label = `${severityText(alert)} ${aboveText(term)} over ${lookbackText(term.lookback)}`;
+  return [{ label, color: colour(gravityOf(alert) === PAGE ? "bad" : "warn"), points, dash: [6, 4] }];
 }
 
 /**

@@ -12,24 +12,25 @@ import { OfficeFault, askEach } from "./office.js";
 /** @typedef {{policy: string, severity: string, intervals: [number, number][]}} Alert */
 /**
  * @typedef {{
- *   from: number, to: number, steps: Step[], remaining: Map<number, string?>, alerts: Alert[],
+ *   from: number, to: number, step: number, steps: Step[], remaining: Map<number, string?>, alerts: Alert[],
  *   exclusions: import("./office.js").Exclusion[]?,
  * }} Told
  */
 
 // Every length divides the hour, or is a multiple of it, so that slices lie inside of steps.
 const STEPS = [1, 2, 5, 10, 15, 30, 60, 120, 180, 240, 360, 720, 1440, 2880, 4320, 7200, 10_080, 14_400];
-const MOST_STEPS = 60;
+const MOST_STEPS = 96;
 const HOUR = 60;
 
 /**
  * The minutes at which steps begin and end, `from` and `to` among them.
  * @param {number} from
  * @param {number} to
- * @param {number} least no step is shorter
+ * @param {number} slice every step holds whole ones
  */
-export function edgesOf(from, to, least = 1) {
-  const step = STEPS.find((each) => each >= least && (to - from) / each <= MOST_STEPS) ?? STEPS[STEPS.length - 1];
+export function edgesOf(from, to, slice = 1) {
+  const isFit = (/** @type {number} */ each) => each % slice === 0 && (to - from) / each <= MOST_STEPS;
+  const step = STEPS.find(isFit) ?? STEPS[STEPS.length - 1];
   const edges = [from];
   for (let edge = (Math.floor(from / step) + 1) * step; edge < to; edge += step) edges.push(edge);
   if (to > from) edges.push(to);
@@ -40,16 +41,13 @@ export function edgesOf(from, to, least = 1) {
  * @param {Office} office
  * @param {import("./file.js").SloEntry} slo
  * @param {import("./file.js").ObjectiveEntry} objective
- * @param {number} to
+ * @param {{from: number, to: number}} range
  * @param {(done: number, all: number) => void} told
  * @returns {Promise<Told>}
  */
-export async function askSeries(office, slo, objective, to, told) {
-  // What lies before the history is left out, but for the hour in which it begins, where a slice may.
-  const begun = Math.floor(office.origin / HOUR) * HOUR;
-  const from = Math.max(objective.from ?? to, Math.min(begun, to - HOUR));
-  // A slice is an hour at most, so no step of an hour or more is without one.
-  const { edges, step } = edgesOf(from, to, slo.method === "Occurrences" ? 1 : HOUR);
+export async function askSeries(office, slo, objective, { from, to }, told) {
+  // An older slo-notify doesn't tell the slice: it is an hour at most, and divides it.
+  const { edges, step } = edgesOf(from, to, objective.slice ?? (slo.method === "Occurrences" ? 1 : HOUR));
   const known = edges.filter((edge) => edge >= office.origin);
   const all = 2 * known.length;
   const remaining = await askEach(
@@ -67,6 +65,7 @@ export async function askSeries(office, slo, objective, to, told) {
   return {
     from,
     to,
+    step,
     steps,
     remaining,
     alerts: present(alerts),

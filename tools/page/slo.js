@@ -3,18 +3,21 @@
  * @module
  */
 
-import { burnOf, daysText, minutesLeft } from "./budget.js";
-import { LOOKBACKS, burnCell, countsText } from "./cells.js";
+import { burnOf, lastsText, minutesLeft } from "./budget.js";
+import { LOOKBACKS, MINUTES_OF, burnCell, countsText } from "./cells.js";
 import { chartLibrary } from "./chart.js";
 import { details, element, present, row, say, section, table } from "./dom.js";
 import { exactNumber } from "./exact.js";
-import { burnText, percent, readFraction, spell } from "./fractions.js";
+import { burnText, leftText, percent, readFraction, spell } from "./fractions.js";
 import { spanText, zoneOf } from "./minutes.js";
 import { Office } from "./office.js";
+import { gateCommand, openOnes, openSection, runbookLink } from "./open.js";
 import { drawPanels, panels } from "./panels.js";
+import { rangeControls, rangeOf } from "./ranges.js";
 import { monthPlace, sloPlace } from "./routes.js";
 import { askSeries } from "./series.js";
-import { badge, breachingPolicies, stateOf } from "./states.js";
+import { badge, stateDetail, stateOf } from "./states.js";
+import { termsAt } from "./terms.js";
 
 /** @typedef {import("./file.js").OfficeEntry} OfficeEntry */
 /** @typedef {import("./file.js").SloEntry} SloEntry */
@@ -43,21 +46,25 @@ const fact = (name, value) => element("div", {}, element("dt", {}, name), elemen
  */
 function facts({ office, slo, objective }, zone) {
   const remaining = readFraction(objective.remaining);
-  const state = stateOf(slo, objective);
-  const policies = breachingPolicies(objective).join(", ");
-  const left = remaining ? exactNumber(percent(remaining), `budget left: ${objective.remaining}`, true) : "none";
+  const state = stateOf(office, slo, objective);
+  const detail = stateDetail(office, slo, objective, state);
+  const left = remaining ? exactNumber(leftText(remaining), `budget left: ${objective.remaining}`, true) : "none";
   const { num, den } = objective;
   const counted = num === null || den === null ? "none" : countsText({ num, den });
   return element(
     "dl",
-    { class: "facts" },
-    fact("State", element("span", {}, badge(state), policies ? ` ${policies}` : null)),
+    { class: office.up ? "facts" : "facts aged" },
+    fact("State", element("span", {}, badge(state), detail ? ` ${detail}` : null)),
     fact("Budget left", left),
     fact("Good of total", objective.error ? exactNumber(counted, `error: ${objective.error}`, true) : counted),
     fact("Target", objective.target),
     fact("Window", windowText(slo)),
     fact("Counted from", objective.from === null ? "no window has begun" : zone.full(objective.from)),
     fact("Newest data", objective.age === null ? "none in 30 days" : `${spanText(objective.age)} ago`),
+    fact("Name", element("code", {}, slo.name)),
+    fact("May a release go?", gateCommand(slo)),
+    fact("Owner", slo.owner ?? "not said"),
+    fact("Runbook", slo.runbook ? runbookLink(slo.runbook) : "not said"),
     fact("Service", slo.service_display),
     fact("Indicator", `${slo.indicator}, ${slo.method}`),
     fact("Office", office.name),
@@ -69,7 +76,7 @@ function facts({ office, slo, objective }, zone) {
  * @param {Place} place
  */
 function burnsTable({ office, slo, objective }) {
-  const headers = ["Over the last", "Burn", "Budget ends in"];
+  const headers = ["Over the last", "Burn", "Alerts", "Budget ends in"];
   const isRolling = slo.window.rolling;
   const remaining = readFraction(objective.remaining);
   const rows = LOOKBACKS.map((lookback) => {
@@ -77,9 +84,11 @@ function burnsTable({ office, slo, objective }) {
     const burn = readFraction(text);
     const lasts =
       remaining && burn && office.at !== null && objective.from !== null
-        ? daysText(minutesLeft({ remaining, burn, isRolling, elapsed: office.at - objective.from }))
+        ? lastsText(minutesLeft({ remaining, burn, isRolling, elapsed: office.at - objective.from }))
         : "can't be said";
-    return row(headers, [lookback, burnCell(lookback, text), lasts]);
+    const terms = termsAt(objective, MINUTES_OF[lookback]);
+    const alerts = terms || element("span", { class: "none" }, "none");
+    return row(headers, [lookback, burnCell(lookback, text), alerts, lasts]);
   });
   const caption = isRolling
     ? "When nothing would be left, if events came and failed as lately. What leaves the window meanwhile isn't counted."
@@ -119,10 +128,11 @@ function numbersTable(told, target, zone) {
       sum ? sum.num.toLocaleString("en") : "not asked",
       sum ? sum.den.toLocaleString("en") : "not asked",
       burn ? exactNumber(burnText(burn), `burn: ${spell(burn)}`) : "none",
-      remaining ? exactNumber(percent(remaining), `budget left: ${spell(remaining)}`) : "none",
+      remaining ? exactNumber(leftText(remaining), `budget left: ${spell(remaining)}`) : "none",
     ]);
   });
-  return details("The charts' numbers", table({ caption: "Numbers of each step", classes: "plain", headers, rows }));
+  const caption = `Numbers of each step of ${spanText(told.step)}`;
+  return details("The charts' numbers", table({ caption, classes: "plain", headers, rows }));
 }
 
 /**
@@ -130,6 +140,7 @@ function numbersTable(told, target, zone) {
  * @param {Zone} zone
  */
 function alertsTable(told, zone) {
+  if (!told.alerts.length) return element("p", {}, "No alerts are defined: nobody is told when it burns.");
   const headers = ["From", "To", "Policy", "Lasted"];
   const rows = told.alerts
     .flatMap(({ policy, intervals }) => intervals.map(([from, to]) => ({ policy, from, to })))
@@ -138,7 +149,7 @@ function alertsTable(told, zone) {
       const end = to >= told.to ? "now" : zone.full(to);
       return row(headers, [zone.full(from), end, policy, spanText(to - from)]);
     });
-  if (!rows.length) return element("p", {}, "No alert was active in this window.");
+  if (!rows.length) return element("p", {}, "No alert was active in this range.");
   return table({ caption: "When alerts were active", classes: "plain", headers, rows });
 }
 
@@ -148,7 +159,7 @@ function alertsTable(told, zone) {
  */
 function exclusionsList(told, zone) {
   if (told.exclusions === null) return null;
-  if (!told.exclusions.length) return element("p", {}, "Nothing is excluded in this window.");
+  if (!told.exclusions.length) return element("p", {}, "Nothing is excluded in this range.");
   return element(
     "ul",
     {},
@@ -189,7 +200,7 @@ async function closedWindows(office, { slo, objective, office: entry }, zone) {
   const rows = windows.reverse().map(({ from, budgets }) => {
     const { num, den, remaining } = budgets[objective.number];
     const left = readFraction(remaining);
-    const shown = left ? exactNumber(percent(left), `budget left: ${remaining}`) : "none";
+    const shown = left ? exactNumber(leftText(left), `budget left: ${remaining}`) : "none";
     return row(headers, [zone.full(from), num.toLocaleString("en"), den.toLocaleString("en"), shown]);
   });
   const caption = "By their begin, the present one first";
@@ -219,34 +230,71 @@ async function objectTexts(office, slo, objective) {
 }
 
 /**
+ * What stands above the charts.
  * @param {Place} place
+ * @param {import("./file.js").Overview} overview
  * @param {AbortSignal} signal
- * @param {(parts: HTMLElement[]) => void} put shows the view, which goes on to fill itself
  */
-export async function sloView(place, signal, put) {
+function headOf(place, overview, signal) {
   const { office: entry, slo, objective } = place;
   const zone = zoneOf(slo.window.zone);
-  const office = new Office(entry, signal);
-  const progress = element("p", { class: "progress" });
   const month = monthPlace(entry.name, slo.name, objective.number);
   const monthLink = element("a", { href: month }, "A calendar month, for printing");
-  const head = present([
+  const open = openOnes({ ...overview, offices: [{ ...entry, slos: [{ ...slo, objectives: [objective] }] }] });
+  return present([
     element("h1", { tabindex: -1 }, slo.display),
+    entry.up ? null : element("p", { class: "trouble", role: "alert" }, awayLine(entry, zone)),
     slo.description ? element("p", {}, slo.description) : null,
     objectiveLinks(place),
+    open.length ? openSection(overview, signal, open) : null,
     element("p", { class: "zone" }, `Times are in ${zone.label}. `, monthLink),
     facts(place, zone),
     section("Burn", burnsTable(place)),
   ]);
+}
+
+/**
+ * @param {OfficeEntry} office
+ * @param {Zone} zone
+ */
+function awayLine({ name, fault, at }, zone) {
+  const known = at === null ? "nothing of it is known" : `the numbers are those of ${zone.full(at)}`;
+  return `${name} doesn't answer (${fault}): ${known}`;
+}
+
+/**
+ * @param {Place} place
+ * @param {import("./routes.js").Span} span
+ * @param {import("./file.js").Overview} overview
+ * @param {AbortSignal} signal
+ * @param {(parts: HTMLElement[]) => void} put shows the view, which goes on to fill itself
+ */
+export async function sloView(place, span, overview, signal, put) {
+  const { office: entry, slo, objective } = place;
+  const zone = zoneOf(slo.window.zone);
+  const office = new Office(entry, signal);
+  const head = headOf(place, overview, signal);
+  const progress = element("p", { class: "progress" });
   const rest = element("div", {}, progress);
-  put([...head, rest]);
   if (entry.at === null || objective.from === null) {
+    put([...head, rest]);
     say("The office has no numbers for this SLO", "bad");
     return;
   }
+  const known = { at: entry.at, begin: objective.from, origin: office.origin, zone };
+  const names = { office: entry.name, slo: slo.name, objective: objective.number };
+  let range = null;
+  let fault = null;
+  try {
+    range = rangeOf(span, known);
+  } catch (odd) {
+    fault = odd;
+  }
+  put([...head, element("h2", {}, range?.name ?? "No range"), rangeControls(names, span, range, known), rest]);
+  if (!range) throw fault;
   say(`Loading ${slo.display} …`, "busy");
   const library = chartLibrary();
-  const told = await askSeries(office, slo, objective, entry.at, (done, all) => {
+  const told = await askSeries(office, slo, objective, range, (done, all) => {
     progress.textContent = `${done} of ${all} answers`;
   });
   const texts = await objectTexts(office, slo, objective);
@@ -257,13 +305,14 @@ export async function sloView(place, signal, put) {
   if (signal.aborted) return;
   rest.replaceChildren(
     ...present([
-      section("Over its window", ...figures.map(({ figure }) => figure), numbers),
+      element("div", { class: "figures" }, ...figures.map(({ figure }) => figure)),
+      numbers,
       section("Alerts", alertsTable(told, zone)),
       section("Exclusions", exclusionsList(told, zone), leftOut(told, office, slo.window.rolling)),
       windows,
       texts,
     ]),
   );
-  await drawPanels(figures, told, objective.target, zone);
+  await drawPanels(figures, told, objective, zone);
   say(`${slo.display}, as of ${zone.full(entry.at)}`);
 }

@@ -42,7 +42,7 @@ def all_needed() -> None:
 
 def documents() -> str:
     """200 SLOs: a shop with an outage, its calendar month, and others that do well or badly."""
-    parts = [_service("shop", "Shop front"), _service("search", "Search")]
+    parts = [_service("shop", "Shop front", GUIDANCE), _service("search", "Search"), TRIAL]
     parts += [_indicator(_sli(number)) for number in range(SLOS - 1)]
     shop = _slo("checkout", "Checkout answers", "shop", _sli(0), "0.999", ROLLING)
     shop += "  alertPolicies:\n  - workbook-page\n  - workbook-ticket\n"
@@ -51,10 +51,38 @@ def documents() -> str:
     for number in range(2, SLOS):
         name = f"search-{number:03}"
         text = _slo(name, f"Search part {number}", "search", _sli(number - 1), "0.99", ROLLING)
-        parts.append(text + "  alertPolicies:\n  - workbook-page\n")
+        policy = POLICIES.get(number, "workbook-page")
+        parts.append(text + (f"  alertPolicies:\n  - {policy}\n" if policy else ""))
     return "---\n".join(parts)
 
 
+# Of those that burn one has a ticket, one a policy on trial, one none.
+POLICIES = {44: "workbook-ticket", 84: "trial", 124: ""}
+RUNBOOK = "https://wiki.example.org/shop"
+OWNER = "shop-team"
+GUIDANCE = f"  labels:\n    team: {OWNER}\n  annotations:\n    runbook: {RUNBOOK}\n"
+TRIAL = """apiVersion: openslo/v1
+kind: AlertCondition
+metadata:
+  name: fast
+spec:
+  severity: page
+  condition:
+    kind: burnrate
+    op: gt
+    threshold: 2.5
+    lookbackWindow: 1h
+    alertAfter: 0m
+---
+apiVersion: openslo/v1
+kind: AlertPolicy
+metadata:
+  name: trial
+spec:
+  alertWhenBreaching: false
+  conditions:
+  - conditionRef: fast
+"""
 ROLLING = "  - duration: 30d\n    isRolling: true\n"
 MONTH = (
     "  - duration: 1M\n    calendar:\n      startTime: 2020-01-01 00:00:00\n"
@@ -66,9 +94,9 @@ def _sli(number: int) -> str:
     return f"good-{number:03}"
 
 
-def _service(name: str, display: str) -> str:
+def _service(name: str, display: str, guidance: str = "") -> str:
     head = f"apiVersion: openslo/v1\nkind: Service\nmetadata:\n  name: {name}\n"
-    return head + f"  displayName: {display}\nspec: {{}}\n"
+    return head + f"  displayName: {display}\n{guidance}spec: {{}}\n"
 
 
 def _indicator(name: str) -> str:
@@ -151,13 +179,13 @@ def zone_file() -> bytes:
     return (Path("/usr/share/zoneinfo") / ZONE).read_bytes()
 
 
-def write_overview(folder: Path, port: int) -> Path:
+def write_overview(folder: Path, port: int, receiver: str = "") -> Path:
     """Has slo-notify make a round over an office; gives the file that it wrote."""
     overview = folder / "overview.json"
     config = folder / "notify.toml"
     config.write_text(
         f'state = "{folder}/state.json"\noverview = "{overview}"\nclock = "trusted"\n'
-        f'[[office]]\nname = "shop"\naddress = "http://127.0.0.1:{port}"\npath = "/office/"\n'
+        f'[[office]]\nname = "shop"\naddress = "http://127.0.0.1:{port}"\npath = "/office/"\n{receiver}'
     )
     words = ["/usr/bin/python3", str(TOOLS / "bin" / "slo-notify"), "--once", str(config)]
     run = subprocess.run(words, capture_output=True, text=True, check=False, timeout=600)
