@@ -9,7 +9,12 @@ import { STATES } from "./states.js";
 /** @typedef {import("./overview.js").Line} Line */
 /** @typedef {import("./routes.js").Filter} Filter */
 /** @typedef {{line: Line, row: HTMLElement, search: string}} Row */
-/** @typedef {{head: HTMLElement, count: HTMLElement, rows: Row[]}} Group */
+/** @typedef {{body: HTMLElement, rows: Row[], shown: number}} Piece `shown` of them are shown */
+/** @typedef {{head: HTMLElement?, count: HTMLElement?, pieces: Piece[]}} Group */
+
+// Rows that fill a screen.
+const PIECE = 20;
+let turn = 0;
 
 /** @type {Record<string, {words: string, of: (line: Line) => string, name: (line: Line) => string}>} */
 const KINDS = {
@@ -49,12 +54,67 @@ function groupsOf(rows, by, columns) {
     else found.set(key, [each]);
   }
   return [...found.values()].map((members) => {
+    if (!kind) return { head: null, count: null, pieces: piecesOf(members) };
     const count = element("span");
-    const name = kind ? kind.name(members[0].line) : "";
+    const name = kind.name(members[0].line);
     const cell = element("th", { scope: "rowgroup", role: "rowheader", colspan: columns }, name, " ", count);
-    const head = element("tr", { role: "row", class: "group", hidden: !kind }, cell);
-    return { head, count, rows: members };
+    const head = element("tbody", { role: "rowgroup" }, element("tr", { role: "row", class: "group" }, cell));
+    return { head, count, pieces: piecesOf(members) };
   });
+}
+
+/**
+ * Bodies of a few rows each: what isn't in sight is laid out by the body, not by the row.
+ * @param {Row[]} rows
+ * @returns {Piece[]}
+ */
+function piecesOf(rows) {
+  return Array.from({ length: Math.ceil(rows.length / PIECE) }, (_, index) => {
+    const part = rows.slice(index * PIECE, (index + 1) * PIECE);
+    const body = element("tbody", { role: "rowgroup", class: "piece" }, ...part.map(({ row }) => row));
+    return { rows: part, body, shown: part.length };
+  });
+}
+
+/**
+ * Shows the pieces that have more rows again, a screen in each frame, so that what is in sight comes at once.
+ * @param {Piece[]} pieces
+ */
+function showAgain(pieces) {
+  const again = pieces.filter(({ body, shown }) => shown && body.classList.contains("empty"));
+  const mine = (turn += 1);
+  const next = () => {
+    // Another filter has its own pieces to show.
+    if (mine !== turn) return;
+    for (let rows = 0; rows < PIECE && again.length; ) {
+      const piece = again.shift();
+      piece?.body.classList.remove("empty");
+      rows += piece?.shown ?? 0;
+    }
+    if (again.length) requestAnimationFrame(next);
+  };
+  next();
+}
+
+/**
+ * Shows of a piece what the filter lets through.
+ * @param {Piece} piece
+ * @param {Filter} filter
+ * @param {string[]} words
+ * @returns {number} how many rows
+ */
+function applyTo(piece, filter, words) {
+  const { body, rows } = piece;
+  let shown = 0;
+  for (const { line, row, search } of rows) {
+    const isSeen = isShown(line, filter, search, words);
+    if (row.hidden === isSeen) row.hidden = !isSeen;
+    if (isSeen) shown += 1;
+  }
+  if (!shown || shown > piece.shown) body.classList.add("empty");
+  piece.shown = shown;
+  body.style.setProperty("--rows", `${shown}`);
+  return shown;
 }
 
 /**
@@ -87,36 +147,36 @@ function valuesOf(rows, kind) {
 }
 
 /**
- * The controls, and the rows' bodies that they fill.
+ * Fills a table with the rows, and gives the controls that filter and group them.
+ * @param {HTMLElement} table
  * @param {Row[]} rows
  * @param {Filter} filter
  * @param {number} columns
  * @param {(filter: Filter) => void} kept
  */
-export function filtered(rows, filter, columns, kept) {
+export function filtered(table, rows, filter, columns, kept) {
   const now = { ...filter };
-  const body = element("tbody", { role: "rowgroup" });
   const count = element("output", { for: "filter" });
   /** @type {Group[]} */
   let groups = [];
+  const bodiesOf = (/** @type {Group} */ { head, pieces }) => [head, ...pieces.map(({ body }) => body)];
   const group = () => {
+    for (const body of groups.flatMap(bodiesOf)) body?.remove();
     groups = groupsOf(rows, now.group, columns);
-    body.replaceChildren(...groups.flatMap(({ head, rows: members }) => [head, ...members.map(({ row }) => row)]));
+    table.append(...present(groups.flatMap(bodiesOf)));
   };
   const apply = () => {
     const words = now.words.toLowerCase().split(/\s+/);
     let all = 0;
-    for (const { head, count: told, rows: members } of groups) {
-      let shown = 0;
-      for (const { line, row, search } of members) {
-        const isSeen = isShown(line, now, search, words);
-        if (row.hidden === isSeen) row.hidden = !isSeen;
-        if (isSeen) shown += 1;
-      }
+    for (const { head, count: told, pieces } of groups) {
+      const shown = pieces.reduce((sum, piece) => sum + applyTo(piece, now, words), 0);
       all += shown;
-      told.textContent = `(${shown})`;
-      head.hidden = !now.group || !shown;
+      if (head && told) {
+        told.textContent = `(${shown})`;
+        head.hidden = !shown;
+      }
     }
+    showAgain(groups.flatMap(({ pieces }) => pieces));
     count.textContent = `${all} of ${rows.length}`;
   };
   group();
@@ -125,7 +185,7 @@ export function filtered(rows, filter, columns, kept) {
     apply();
     kept(now);
   };
-  return { body, controls: controls(rows, now, count, changed, group) };
+  return controls(rows, now, count, changed, group);
 }
 
 /**

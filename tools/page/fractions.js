@@ -137,13 +137,15 @@ export function percent(value, digits = 1) {
 }
 
 /**
- * What is left of a budget; one that was spent twice or more is told by how often.
+ * What is left of a budget, never more than there is; one that was spent twice or more is told by
+ * how often.
  * @param {Fraction} value
  */
 export function leftText(value) {
   if (compare(value, fraction(-1, 1)) > 0) return percent(value);
-  const times = subtract(ONE, value);
-  return `spent ${roundedDown(times, times.den === 1n || compare(times, fraction(100, 1)) > 0 ? 0 : 1)}×`;
+  const times = subtract(value, ONE);
+  const digits = times.den === 1n || compare(times, fraction(-100, 1)) < 0 ? 0 : 1;
+  return `spent ${roundedDown(times, digits).replace("−", "")}×`;
 }
 
 /**

@@ -34,12 +34,10 @@ export class Zone {
       timeZoneName: "short",
     });
     this.dayFormat = new Intl.DateTimeFormat("en-GB", { timeZone, day: "numeric", month: "short" });
-    this.timeFormat = new Intl.DateTimeFormat("en-GB", {
-      timeZone,
-      hour: "2-digit",
-      minute: "2-digit",
-      hourCycle: "h23",
-    });
+    /** @type {Intl.DateTimeFormatOptions} */
+    const time = { timeZone, hour: "2-digit", minute: "2-digit", hourCycle: "h23" };
+    this.timeFormat = new Intl.DateTimeFormat("en-GB", time);
+    this.zonedFormat = new Intl.DateTimeFormat("en-GB", { ...time, timeZoneName: "short" });
   }
 
   /** @param {string} timeZone */
@@ -76,6 +74,14 @@ export class Zone {
   /** @param {number} minute */
   time(minute) {
     return this.timeFormat.format(minute * 60_000);
+  }
+
+  /**
+   * @param {number} minute
+   * @returns {string} as `14:20 CET`
+   */
+  zonedTime(minute) {
+    return this.zonedFormat.format(minute * 60_000);
   }
 
   /**

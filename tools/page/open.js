@@ -77,7 +77,7 @@ function toldText(alert, notify, office, zone) {
 function momentText(minute, at, name) {
   const zone = zoneOf(name);
   const isToday = at !== null && zone.dayAndMonth(minute) === zone.dayAndMonth(at) && at - minute < DAY;
-  return isToday ? zone.time(minute) : zone.full(minute);
+  return isToday ? zone.zonedTime(minute) : zone.full(minute);
 }
 
 /**
@@ -211,7 +211,8 @@ function actions(open, notify) {
 function openItem(open, notify, signal) {
   const { office, slo, objective, alerts } = open;
   const age = awayText(office);
-  const where = [objective.display === "0" ? null : objective.display, `target ${objective.target}`, slo.service_display];
+  const name = objective.display === "0" ? null : objective.display;
+  const where = [name, `target ${objective.target}`, slo.service_display];
   return element(
     "li",
     { class: `burning ${STATES[open.rank].name}${age ? " aged" : ""}` },

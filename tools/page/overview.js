@@ -193,7 +193,8 @@ export function overviewView(overview, filter, kept, signal) {
   const rows = lines.map((line) => lineRow(line, overview.offices.length > 1));
   sayAge(overview);
   const caption = "All objectives: first what wakes somebody, then by what is left.";
-  const { body, controls } = filtered(rows, filter, HEADERS.length, kept);
+  const table = tableOf({ caption, classes: "overview", headers: HEADERS, bodies: [], hasHint: true });
+  const controls = filtered(table, rows, filter, HEADERS.length, kept);
   return present([
     element("h1", { tabindex: -1 }, "Error budgets"),
     ...troubles(overview).map((text) => element("p", { class: "trouble", role: "alert" }, text)),
@@ -201,8 +202,6 @@ export function overviewView(overview, filter, kept, signal) {
     summaryOf(lines, filter),
     fillingList(overview),
     lines.length ? controls : null,
-    lines.length
-      ? tableOf({ caption, classes: "overview", headers: HEADERS, bodies: [body], hasHint: true })
-      : noLines(overview),
+    lines.length ? table : noLines(overview),
   ]);
 }

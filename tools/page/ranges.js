@@ -87,7 +87,8 @@ export function rangeControls({ office, slo, objective }, span, shown, { at, zon
   );
   form.addEventListener("submit", (event) => {
     event.preventDefault();
-    location.hash = sloPlace(office, slo, objective, { from: dates.from.value, to: dates.to.value });
+    const [begin, end] = [dates.from, dates.to].map(({ value }) => value.replace(" ", "T"));
+    location.hash = sloPlace(office, slo, objective, { from: begin, to: end });
   });
   return element("nav", { class: "ranges", "aria-label": "Range of time" }, ...links, form);
 }
@@ -97,5 +98,7 @@ export function rangeControls({ office, slo, objective }, span, shown, { at, zon
  * @param {string} value
  */
 function dateInput(id, value) {
-  return /** @type {HTMLInputElement} */ (element("input", { id, type: "datetime-local", value, required: true }));
+  const form = { placeholder: "2026-11-29T14:20", pattern: "\\d{4}-\\d\\d-\\d\\d[T ]\\d\\d:\\d\\d", maxlength: 16 };
+  const marks = { id, type: "text", value, required: true, autocomplete: "off", ...form };
+  return /** @type {HTMLInputElement} */ (element("input", marks));
 }

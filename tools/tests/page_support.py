@@ -42,15 +42,15 @@ def all_needed() -> None:
 
 def documents() -> str:
     """200 SLOs: a shop with an outage, its calendar month, and others that do well or badly."""
-    parts = [_service("shop", "Shop front", GUIDANCE), _service("search", "Search"), TRIAL]
-    parts += [_indicator(_sli(number)) for number in range(SLOS - 1)]
-    shop = _slo("checkout", "Checkout answers", "shop", _sli(0), "0.999", ROLLING)
+    parts = [service("shop", "Shop front", GUIDANCE), service("search", "Search"), TRIAL]
+    parts += [indicator(_sli(number)) for number in range(SLOS - 1)]
+    shop = slo_text("checkout", "Checkout answers", "shop", _sli(0), "0.999", ROLLING)
     shop += "  alertPolicies:\n  - workbook-page\n  - workbook-ticket\n"
-    month = _slo("checkout-month", "Checkout, by the month", "shop", _sli(0), "0.995", MONTH)
+    month = slo_text("checkout-month", "Checkout, by the month", "shop", _sli(0), "0.995", MONTH)
     parts += [shop, month]
     for number in range(2, SLOS):
         name = f"search-{number:03}"
-        text = _slo(name, f"Search part {number}", "search", _sli(number - 1), "0.99", ROLLING)
+        text = slo_text(name, f"Search part {number}", "search", _sli(number - 1), "0.99", ROLLING)
         policy = POLICIES.get(number, "workbook-page")
         parts.append(text + (f"  alertPolicies:\n  - {policy}\n" if policy else ""))
     return "---\n".join(parts)
@@ -94,19 +94,19 @@ def _sli(number: int) -> str:
     return f"good-{number:03}"
 
 
-def _service(name: str, display: str, guidance: str = "") -> str:
+def service(name: str, display: str, guidance: str = "") -> str:
     head = f"apiVersion: openslo/v1\nkind: Service\nmetadata:\n  name: {name}\n"
     return head + f"  displayName: {display}\n{guidance}spec: {{}}\n"
 
 
-def _indicator(name: str) -> str:
+def indicator(name: str) -> str:
     return (
         f"apiVersion: openslo/v1\nkind: SLI\nmetadata:\n  name: {name}\nspec:\n  ratioMetric:\n"
         "    total:\n      metricSource: {}\n    good:\n      metricSource: {}\n"
     )
 
 
-def _slo(name: str, display: str, service: str, sli: str, target: str, window: str) -> str:
+def slo_text(name: str, display: str, service: str, sli: str, target: str, window: str) -> str:
     return (
         f"apiVersion: openslo/v1\nkind: SLO\nmetadata:\n  name: {name}\n"
         f"  displayName: {display}\nspec:\n  service: {service}\n  indicatorRef: {sli}\n"
@@ -165,14 +165,14 @@ def young_office(folder: Path, minutes: int, rows: int) -> OfficeServer:
 def few_documents() -> str:
     """An SLO of each kind: over a rolling window, over the calendar's month, in slices."""
     policies = "  alertPolicies:\n  - workbook-page\n  - workbook-ticket\n"
-    rolling = _slo("rolling", "Rolling", "shop", _sli(0), "0.999", ROLLING) + policies
-    month = _slo("monthly", "By the month", "shop", _sli(0), "0.99", MONTH) + policies
-    slices = _slo("slices", "In slices", "shop", _sli(0), "0.99", MONTH) + policies
+    rolling = slo_text("rolling", "Rolling", "shop", _sli(0), "0.999", ROLLING) + policies
+    month = slo_text("monthly", "By the month", "shop", _sli(0), "0.99", MONTH) + policies
+    slices = slo_text("slices", "In slices", "shop", _sli(0), "0.99", MONTH) + policies
     slices = slices.replace("Occurrences", "Timeslices").replace(
         "    target: 0.99\n",
         "    target: 0.99\n    timeSliceTarget: 0.9\n    timeSliceWindow: 1h\n",
     )
-    return "---\n".join([_service("shop", "Shop"), _indicator(_sli(0)), rolling, month, slices])
+    return "---\n".join([service("shop", "Shop"), indicator(_sli(0)), rolling, month, slices])
 
 
 def zone_file() -> bytes:
@@ -400,9 +400,13 @@ class Browser:
         begin, end = self.run(
             "return [performance.getEntriesByType('navigation')[0].responseStart, window.drawnAt]"
         )
+        return (end - begin) / 1000, self.work()
+
+    def work(self) -> float:
+        """The seconds that the page's thread worked since it began."""
         metrics = self.cdp("Performance.getMetrics")["metrics"]
-        work = next(each["value"] for each in metrics if each["name"] == "ThreadTime")
-        return (end - begin) / 1000, work
+        found: float = next(each["value"] for each in metrics if each["name"] == "ThreadTime")
+        return found
 
     def status(self) -> tuple[str, str]:
         text, mood = self.run(

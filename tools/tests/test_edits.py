@@ -7,7 +7,8 @@ import unittest
 from pathlib import Path
 
 TESTS = Path(__file__).resolve().parent
-PACKAGE = TESTS.parent / "slo_tools"
+TOOLS = TESTS.parent
+PACKAGE = TOOLS / "slo_tools"
 
 
 class EditsTest(unittest.TestCase):
@@ -15,7 +16,8 @@ class EditsTest(unittest.TestCase):
         for table in sorted((TESTS / "edits").glob("*.toml")):
             for edit in tomllib.loads(table.read_text())["edit"]:
                 with self.subTest(edit["name"]):
-                    self.assertEqual((PACKAGE / edit["file"]).read_text().count(edit["old"]), 1)
+                    folder = TOOLS if edit["file"].startswith("page/") else PACKAGE
+                    self.assertEqual((folder / edit["file"]).read_text().count(edit["old"]), 1)
                     for group in edit["groups"].split():
                         self.assertTrue((TESTS / f"test_{group}.py").exists(), group)
 
