@@ -86,7 +86,7 @@ function momentText(minute, at, name) {
  * @param {string} name of the zone
  */
 function sinceText(since, at, name) {
-  const lasted = at === null ? "" : `, ${spanText(Math.max(0, at - since))}`;
+  const lasted = at === null || at <= since ? "" : `, ${spanText(at - since)}`;
   return `since ${momentText(since, at, name)}${lasted}`;
 }
 
