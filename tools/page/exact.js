@@ -22,7 +22,7 @@ export function exactNumber(text, exact, isReached = false) {
 
 /** @param {EventTarget?} target */
 function numberAt(target) {
-  return target instanceof HTMLElement ? /** @type {HTMLElement?} */ (target.closest("[data-exact]")) : null;
+  return target instanceof Element ? /** @type {HTMLElement?} */ (target.closest("[data-exact]")) : null;
 }
 
 /** @param {HTMLElement} number */

@@ -64,8 +64,8 @@ export const spellMonth = ({ year, month }) => `${year}-${`${month}`.padStart(2,
 
 /** @param {Record<string, string>} keys those without a value are left out */
 function queryOf(keys) {
-  const query = new URLSearchParams(Object.entries(keys).filter(([, value]) => value));
-  return query.size ? `?${query}` : "";
+  const query = `${new URLSearchParams(Object.entries(keys).filter(([, value]) => value))}`;
+  return query ? `?${query}` : "";
 }
 
 /** @param {Partial<Filter>} filter */

@@ -93,7 +93,7 @@ function burnsTable({ office, slo, objective }) {
   const caption = isRolling
     ? "When nothing would be left, if events came and failed as lately. What leaves the window meanwhile isn't counted."
     : "When nothing would be left, if events came and failed as lately, should the window last so long.";
-  return table({ caption, classes: "plain", headers, rows });
+  return table({ caption, classes: office.up ? "plain" : "plain aged", headers, rows });
 }
 
 /** @param {Place} place */

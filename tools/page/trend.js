@@ -21,7 +21,10 @@ const LEAST_TOP = 1;
  */
 export function trendCell(trend) {
   const known = (trend?.burns ?? []).filter((burn) => burn !== null);
-  if (!trend || !known.length) return element("span", { class: "none" }, "none");
+  if (!trend || !known.length) {
+    const nothing = "burn of the last 7 days: nothing was counted in a step that is over";
+    return element("span", { class: "none", tabindex: -1, "data-exact": nothing }, "none");
+  }
   const most = known.reduce((a, b) => Math.max(a, b), 0);
   const made = document.createElementNS(SPACE, "svg");
   for (const [name, value] of Object.entries({ width: WIDTH, height: HEIGHT, viewBox: `0 0 ${WIDTH} ${HEIGHT}` })) {

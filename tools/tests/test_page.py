@@ -414,6 +414,8 @@ class Page(unittest.TestCase):
         self.browser.key("ArrowRight")
         self.assertRegex(self.browser.run(EXACT), r"^budget left: -?\d+/\d+$")
         self.browser.key("ArrowRight")
+        self.assertRegex(self.browser.run(EXACT), r"^burn of the last 7 days")
+        self.browser.key("ArrowRight")
         self.assertRegex(self.browser.run(EXACT), r"^burn over 5m: \d+/\d+$")
         self.browser.key("ArrowDown")
         self.assertRegex(self.browser.run(EXACT), r"^burn over 5m: \d+/\d+$")

@@ -246,6 +246,12 @@ class Incident(unittest.TestCase):
             labels = [each[2] for each in found]
             self.assertEqual(labels[1], "burn of the last 7 days by 6 h: at most 3, lately 3")
             self.assertEqual(found[5][3], 0)
+            tip = self.browser.run(
+                "document.querySelectorAll('.trend .line')[1].dispatchEvent(new PointerEvent("
+                "'pointerover', {bubbles: true}));"
+                "const e = document.getElementById('exact'); return e.hidden ? '' : e.textContent"
+            )
+            self.assertEqual(tip, labels[1])
             self.is_well()
 
     def test_filters_stand_in_the_address(self) -> None:
