@@ -6,8 +6,8 @@ import shutil
 import subprocess
 from pathlib import Path
 
-from claim.claim import RUN, Claim
-from claim.house import House, folders_of, key_of, reach
+from claim.claim import Claim
+from claim.house import House, key_of, reach
 from claim.sources import Definition
 
 # What stands between `run` and the system, and tells proofs nothing of what it gives or takes.
@@ -38,18 +38,19 @@ def kit() -> Path | None:
     return Path(first_page).parent / "rattle"
 
 
-def ported_definitions(top: Path, claim: Claim, sources: Path) -> list[Definition]:
+def ported_definitions(claim: Claim, sources: Path) -> list[Definition]:
     """What the theorem's definitions name of ported crates, with all that these name."""
-    named = {path.split(".")[0] for one in claim.of_run if isinstance(one, Definition) for path, _ in one.outside}
+    named = {it for one in claim.of_run if isinstance(one, Definition) for it in one.outside}
     found: dict[str, Path] = {}
+    reached: list[Definition] = []
     # a ported crate may name others
-    while more := {it for it in named if it not in found and (sources / it / "specs").is_dir() and it != "std"}:
+    while more := {it for path, _ in named if (it := path.split(".")[0]) not in found and it != "std" and (sources / it / "specs").is_dir()}:
         found.update({it: sources / it for it in sorted(more)})
-        house = House({**found, **folders_of(top)})
-        roots = sorted(house.contract(*RUN).uses, key=key_of)
-        reached = [it for it in reach(roots) if isinstance(it, Definition)]
-        named |= {path.split(".")[0] for one in reached for path, _ in one.outside}
-    return [it for it in reached if it.crate in found]
+        house = House(found)
+        roots = {it for place in named if (it := house.look_up(*place)) is not None}
+        reached = [it for it in reach(sorted(roots, key=key_of)) if isinstance(it, Definition)]
+        named |= {it for one in reached for it in one.outside}
+    return reached
 
 
 def size_of(definitions: list[Definition]) -> str:
@@ -66,7 +67,7 @@ def sizes(top: Path, claim: Claim) -> dict[str, str]:
         made[what] = f"{sum(code_lines(top / it) for it in files):,} lines of code"
     sources = kit()
     if sources is not None:
-        made["definitions of ported crates in these"] = size_of(ported_definitions(top, claim, sources))
+        made["definitions of ported crates in these"] = size_of(ported_definitions(claim, sources))
     return made
 
 
