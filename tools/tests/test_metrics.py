@@ -21,7 +21,7 @@ from engines import PrometheusServer
 from notify_support import Desk, MovedClock
 from support import SHOP, TOP, OfficeServer, free_port, needed, run_tool, until
 
-from slo_tools.notify.budget_metrics import nearest
+from slo_tools.notify.budget_metrics import nearest, target_of, window_name
 from slo_tools.notify.rounds import Rounds
 
 DASHBOARD = TOP / "examples" / "grafana" / "slo_office.json"
@@ -200,6 +200,16 @@ class Numbers(Desk):
         self.assertEqual(nearest(Fraction(10**400)), float("inf"))
         self.assertEqual(nearest(Fraction(-(10**400))), float("-inf"))
         self.assertEqual(nearest(Fraction(1, 3)), 1 / 3)
+
+    def test_a_window_is_named_as_prometheus_writes_it(self) -> None:
+        names = {40_320: "4w", 43_200: "30d", 1_440: "1d", 600: "10h", 90: "90m", 525_600: "1y"}
+        self.assertEqual({minutes: window_name(minutes) for minutes in names}, names)
+
+    def test_a_target_is_read_as_it_was_written(self) -> None:
+        for text, part in (("0.995", "0.995"), ("99.5%", "0.995"), ("1", "1"), ("0", "0")):
+            self.assertEqual(target_of(text), Fraction(part))
+        for text in ("", "x", "1e9", "1/2", "-1", "0.99 ", "٣"):
+            self.assertEqual(target_of(text), None)
 
     def test_names_of_metrics_that_nobody_offers_are_refused(self) -> None:
         file = self.folder / "names.toml"

@@ -299,7 +299,7 @@ class Terminal(Standings):
         )
         screen.process.send_signal(signal.SIGINT)
         status, told = screen.ended()
-        self.assertEqual(status, 1)
+        self.assertEqual(status, 1, told)
         self.assertNotIn("Traceback", told)
 
     def test_what_is_worst_stays_on_a_low_screen(self) -> None:

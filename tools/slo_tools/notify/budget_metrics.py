@@ -103,7 +103,7 @@ class _Numbers:
     """An objective's exact numbers: target, and the bad part of each lookback and of the window."""
 
     def __init__(self, view: ObjectiveView) -> None:
-        self.target = _target(view.objective.target)
+        self.target = target_of(view.objective.target)
         self.allowed = None if self.target is None else 1 - self.target
         budget = view.budget
         is_counted = budget is not None and budget.den > 0
@@ -148,7 +148,7 @@ def _of_sloth(office: str, slo: Slo, view: ObjectiveView, numbers: _Numbers) -> 
     ratios = {each: numbers.error_of(numbers.burns.get(each)) for each in SLOTH_LOOKBACKS}
     if minutes:
         # Where the window is as long as a lookback, the window counts.
-        ratios[_window(minutes)] = numbers.error
+        ratios[window_name(minutes)] = numbers.error
     for window, error in ratios.items():
         of_window = {**labels, "sloth_window": window}
         yield from _sample(f"slo:sli_error:ratio_rate{window}", of_window, error)
@@ -169,14 +169,14 @@ def _sample(name: str, labels: Mapping[str, str], value: Optional[Fraction]) -> 
         yield name, labels, value
 
 
-def _target(text: str) -> Optional[Fraction]:
+def target_of(text: str) -> Optional[Fraction]:
     """A target as it was written, `0.99` or `99%`; None for what is none."""
     if _TARGET.fullmatch(text) is None:
         return None
     return Fraction(text[:-1]) / 100 if text.endswith("%") else Fraction(text)
 
 
-def _window(minutes: int) -> str:
+def window_name(minutes: int) -> str:
     """A window's length as Prometheus writes it: 28 days are `4w`, 30 are `30d`."""
     return next(f"{minutes // long}{unit}" for unit, long in _UNITS if minutes % long == 0)
 

@@ -67,40 +67,25 @@ def _number(text: str, most: int, what: str) -> int:
 
 
 def main(words: Optional[list[str]] = None, clock: Clock = SystemClock()) -> int:
-    """Asks, prints, and returns the exit status."""
+    """Asks, prints, and returns the exit status: where it is watched, that of the last table."""
     options = parser().parse_args(words)
+    status = Status.UNKNOWN
     try:
         asker = Asker(office_of(options, PAUSES, timeout=SECONDS), options.stale)
         status = _shown(asker, options, clock)
         while options.watch is not None:
-            status = _again(asker, options, clock, status)
-        return int(status)
+            clock.sleep(options.watch)
+            status = _shown(asker, options, clock)
+    except KeyboardInterrupt:
+        pass
     except BrokenPipeError:
         # Whoever read it has seen enough, as `head` does.
         os.dup2(os.open(os.devnull, os.O_WRONLY), sys.stdout.fileno())
+        return int(Status.UNKNOWN)
     except (OSError, ValueError) as fault:
         print(f"slo-status: {fault}", file=sys.stderr)
-    except _Ended as ended:
-        return int(ended.status)
-    except KeyboardInterrupt:
-        pass
-    return int(Status.UNKNOWN)
-
-
-class _Ended(Exception):
-    """Whoever watched has ended it."""
-
-    def __init__(self, status: Status) -> None:
-        super().__init__()
-        self.status = status
-
-
-def _again(asker: Asker, options: argparse.Namespace, clock: Clock, before: Status) -> Status:
-    try:
-        clock.sleep(options.watch)
-        return _shown(asker, options, clock)
-    except KeyboardInterrupt:
-        raise _Ended(before) from None
+        return int(Status.UNKNOWN)
+    return int(status)
 
 
 def _shown(asker: Asker, options: argparse.Namespace, clock: Clock) -> Status:
