@@ -110,6 +110,9 @@ def with_office(words: set[str]) -> None:
                 lambda: run_tool("slo-gate", "--office", office.address, "--service", "shop")
             )
             told(f"slo-gate, a service of {SLOS} SLOs", clock, used)
+        if "status" in words:
+            clock, used = processor(lambda: run_tool("slo-status", "--office", office.address))
+            told(f"slo-status, {SLOS} SLOs", clock, used)
         if "notify" in words:
             rounds_of([office], place, SLOS)
 
@@ -171,8 +174,8 @@ def _message(path: str, body: bytes) -> bytes:
 
 
 def main(words: list[str]) -> None:
-    wanted = set(words) or {"notify", "gate", "apply", "journal", "fleet"}
-    if wanted & {"notify", "gate", "apply"}:
+    wanted = set(words) or {"notify", "status", "gate", "apply", "journal", "fleet"}
+    if wanted & {"notify", "status", "gate", "apply"}:
         with_office(wanted)
     if "journal" in wanted:
         journal()

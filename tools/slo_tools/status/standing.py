@@ -1,4 +1,4 @@
-"""How an objective stands, in the words and the order of the page's overview. Nothing is asked here."""
+"""How an objective stands, and which one stands worst. Nothing is asked here."""
 
 from __future__ import annotations
 
