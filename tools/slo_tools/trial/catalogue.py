@@ -46,6 +46,11 @@ class Catalogue:
             if (severity := self._severity(policy)) is not None
         ]
 
+    def of_slo(self, name: str) -> Catalogue:
+        """The same without all other SLOs."""
+        kept = {it: text for it, text in self.texts.items() if it[0] != "SLO" or it[1] == name}
+        return Catalogue(kept, self.zones)
+
     def _severity(self, policy: str) -> Optional[str]:
         if policy in BUILT_IN:
             return BUILT_IN[policy].severity

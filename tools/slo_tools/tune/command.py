@@ -121,8 +121,8 @@ def _tuned(past: Past, options: argparse.Namespace) -> Tuned:
             raise CantTry(f"{slo.name} has {len(slo.objectives)} objectives, counted from 0")
         incidents = _incidents(options.incidents, catalogue.slos, slo)
         own: dict[str, list[Alert]] = {policy: [] for policy in slo.policies}
-        for alert in told_by(scratch, catalogue, begin, end).alerts:
-            if (alert.watched.slo, alert.watched.objective) == (slo.name, options.objective):
+        for alert in told_by(scratch, catalogue.of_slo(slo.name), begin, end).alerts:
+            if alert.watched.objective == options.objective:
                 own[alert.watched.policy].append(alert)
         window = minutes_of_duration(str(slo.window.get("duration"))) or DAY
         errors = errors_of(scratch, slo.name, options.objective, past.origin, end, window)
