@@ -293,6 +293,13 @@ class Told(Trying):
         head = f"Notices as it came, at the ticks of {len(ticks)} of 360 minutes"
         self.assertIn(head, run.stdout.splitlines())
 
+    def test_an_office_without_an_entry_is_tried(self) -> None:
+        self.keep([])
+        self.write(SHOP, slo("answers", "0.99"))
+        status, told = self.told("--as-it-came")
+        self.assertEqual((status, told["begin"], told["end"]), (1, ORIGIN, ORIGIN))
+        self.assertEqual(told["folder"]["as_it_came"], [])
+
     def test_days_are_those_before_the_last_entry(self) -> None:
         last = ORIGIN + 5 * 1440
         self.keep([define(ORIGIN, SHOP + slo("answers", "0.99")), tick(last)])
@@ -393,6 +400,10 @@ class BadInput(Trying):
         self.file.write_bytes(data[:-1] + entry + b"\0")
         told = "entry 1, samples of 2025-02-19T21:21Z, can't stand there"
         self.assertIn(told, self.refused())
+        self.file.write_bytes(data[:-1] + b"\1\0\0\0\5" + struct.pack(">IB", ORIGIN, 3) + b"\0")
+        self.assertIn("entry 1, zone of 2025-02-19T21:20Z, can't stand there", self.refused())
+        self.file.write_bytes(data[:-1] + b"\1\0\0\0\5" + struct.pack(">IB", ORIGIN, 10) + b"\0")
+        self.assertIn("entry 1 is of no kind that is known here", self.refused())
         self.file.write_bytes(b"\1OSLOJRN2" + data[9:])
         self.assertIn("the letters at 1", self.refused())
         run = run_tool("slo-try", "--office", "http://127.0.0.1:1", str(self.slos))

@@ -3,7 +3,7 @@
 from __future__ import annotations
 
 from collections.abc import Sequence
-from dataclasses import dataclass
+from dataclasses import dataclass, replace
 from pathlib import Path
 from typing import Optional
 
@@ -71,7 +71,8 @@ def tried(past: Past, terms: Terms) -> Trial:
     # Ticks and takings change no timeline, and each tick judges all alerts again.
     known = past.without(Kind.TICK, Kind.TAKING)
     with Scratch(terms.program, past=known) as scratch:
-        before = catalogue_of(scratch, _zones(known))
+        # The first question opens the copy, which judges each entry before one is read here.
+        before = replace(catalogue_of(scratch, {}), zones=_zones(known))
         now = told_by(scratch, before, begin, end)
         after = _applied(scratch, before, known, terms)
         folder = told_by(scratch, after, begin, end)
