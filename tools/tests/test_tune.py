@@ -48,7 +48,7 @@ Told = tuple[int, int, int, int]
 
 
 def bad(minute: int) -> int:
-    return BAD.get(minute, 2)
+    return BAD.get(minute, 1 if minute < 60 else 2)
 
 
 def sums() -> list[int]:
@@ -165,7 +165,7 @@ class Tuning(unittest.TestCase):
         before = sums()
         ends = range(1440, MINUTES + 1, 60)
         errors = [Fraction(before[end] - before[end - 1440], 1_440_000) for end in ends]
-        self.assertEqual(len(errors), 2)
+        self.assertEqual(len(set(errors)), 2)
         run = self.tune()
         for part, error in (("100%", max(errors)), ("50%", min(errors))):
             target = f"{int((1 - error) * 1_000_000) / 1_000_000:.6f}"
