@@ -105,6 +105,18 @@ class Status(Standings):
         )
         self.assertEqual(lines[4].split()[3:], ["-"] * 5)
 
+    def test_what_pages_stands_before_what_does_not(self) -> None:
+        ticket = HOT.replace("hot", "warm").replace("severity: page", "severity: ticket")
+        pages = slo("pages", "hot-policy").replace("target: 0.99", "target: 0.9")
+        both = slo("both", "warm-policy\n  - hot-policy").replace("target: 0.99", "target: 0.8")
+        office = self.office(HOT, ticket, slo("tickets", "warm-policy"), pages, both)
+        self.rows(office, 1, 120, 750)
+        status, lines, _ = self.status(office.address)
+        told = [(line.split("/")[0], line.split()[-1]) for line in lines[2:]]
+        expected = [("pages", "hot-policy"), ("both", "warm-policy"), ("tickets", "warm-policy")]
+        self.assertEqual((status, told), (1, expected))
+        self.assertEqual(lines[3].split()[-2], "hot-policy")
+
     def test_a_spent_budget_alone_is_status_1(self) -> None:
         office = self.office(slo("a", "workbook-ticket"))
         self.rows(office, 1, 120, 990)

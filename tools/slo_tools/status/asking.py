@@ -2,7 +2,7 @@
 
 from __future__ import annotations
 
-from collections.abc import Iterator, Sequence
+from collections.abc import Iterable, Iterator, Sequence
 from dataclasses import dataclass
 from fractions import Fraction
 from typing import Any, Optional
@@ -21,6 +21,8 @@ from slo_tools.status.standing import Facts, Line
 LOOKBACKS = ("5m", "1h", "6h", "3d")
 # The minutes of the first of them.
 SHORTEST = 5
+# The severities that wake somebody.
+PAGES = ("page", "critical")
 
 
 @dataclass(frozen=True)
@@ -96,10 +98,17 @@ class Asker:
                 age,
                 age is None or age > self._most(told.slo),
                 alerts,
+                self._paging(alerts),
             )
             rates = [None if burn is None else burn.burn for burn in burns]
             lines.append(Line(told.slo.name, number, facts, rates))
         return lines
+
+    def _paging(self, policies: Iterable[str]) -> frozenset[str]:
+        known = self._catalogue.policies
+        return frozenset(
+            each for each in policies if each in known and known[each].severity.lower() in PAGES
+        )
 
     def _most(self, slo: Slo) -> int:
         return self._catalogue.stale.get(slo.name, self.usual)

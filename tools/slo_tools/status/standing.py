@@ -34,18 +34,25 @@ _ORDER = list(State)
 @dataclass(frozen=True)
 class Facts:
     """What the office said of an objective; `counted` is None where no window has begun. `alerts`
-    are the states of its policies, None where the office didn't say one."""
+    are the states of its policies, None where the office didn't say one; `paging` are those of them
+    that wake somebody."""
 
     counted: Optional[int]
     remaining: Optional[Fraction]
     age: Optional[int]
     is_stale: bool
     alerts: dict[str, Optional[str]]
+    paging: frozenset[str] = frozenset()
 
     @property
     def breaching(self) -> list[str]:
-        """The policies that breach."""
-        return [policy for policy, state in self.alerts.items() if state == "breaching"]
+        """The policies that breach, first those that page."""
+        found = [policy for policy, state in self.alerts.items() if state == "breaching"]
+        return sorted(found, key=lambda policy: policy not in self.paging)
+
+    @property
+    def is_paging(self) -> bool:
+        return not self.paging.isdisjoint(self.breaching)
 
     @property
     def state(self) -> State:
@@ -70,10 +77,10 @@ class Line:
     facts: Facts
     burns: list[Optional[Fraction]]
 
-    def rank(self) -> tuple[int, Fraction, str, int]:
-        """Worst first, and in each state the least budget first."""
-        left = self.facts.remaining
-        return _ORDER.index(self.facts.state), left or Fraction(0), self.slo, self.number
+    def rank(self) -> tuple[int, bool, Fraction, str, int]:
+        """Worst first, what pages before what doesn't, and among equals the least budget first."""
+        order = _ORDER.index(self.facts.state), not self.facts.is_paging
+        return *order, self.facts.remaining or Fraction(0), self.slo, self.number
 
 
 def status_of(lines: Iterable[Line]) -> Status:
