@@ -13,7 +13,7 @@ RUN = TOP / "tools" / "tests" / "run"
 QUICK = {"counters", "edits", "follow", "journal", "office", "words"}
 HISTORIES = {True: "10000", False: "100"}
 # What the tools stand on, by module and Debian's package.
-NEEDS = {"requests": "python3-requests", "yaml": "python3-yaml", "prometheus_client": "python3-prometheus-client"}
+NEEDS = {"yaml": "python3-yaml", "prometheus_client": "python3-prometheus-client"}
 
 
 def lacking() -> list[str]:

@@ -7,15 +7,7 @@ from collections.abc import Callable, Mapping, Sequence
 from dataclasses import dataclass
 from typing import Any, Generic, Optional, TypeVar, Union
 
-from slo_tools.answers import (
-    Alerts,
-    Budgets,
-    Burn,
-    KeptRow,
-    Notice,
-    ObjectName,
-    budget_of,
-)
+from slo_tools.answers import Alerts, Budgets, Burn, KeptRow, Notice, ObjectName, budget_of
 from slo_tools.refusals import KINDS, Foreign, Members, OfficeError, Refusal
 from slo_tools.told import Told, is_number, is_pair, json_members
 from slo_tools.wire import Reply

@@ -18,14 +18,18 @@ from collections.abc import Callable
 from dataclasses import dataclass
 from pathlib import Path
 
+from engines import ClickHouseServer, Exporter, PrometheusServer, data_source, sli
+from notify_support import LIBRARY
+from support import OfficeServer, needed, until
+
 from day_servers import (
     BURST,
     RATE,
     TABLE,
     Act,
     FedOffice,
-    PageServer,
     Pager,
+    PageServer,
     PagingManager,
     SmallDisk,
     Told,
@@ -36,9 +40,6 @@ from day_servers import (
     play,
     show_clock,
 )
-from engines import ClickHouseServer, Exporter, PrometheusServer, data_source, sli
-from notify_support import LIBRARY
-from support import OfficeServer, needed, until
 
 IS_WHOLE = os.environ.get("SLO_TOOLS_DAY") == "whole"
 # The history before the day: what the windows of six hours see.

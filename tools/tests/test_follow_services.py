@@ -21,7 +21,7 @@ UNIT = "systemctl show --property=NRestarts,ExecMainStatus,ActiveState --value s
 COMMANDS = {
     "install": "sudo apt install ./*.deb curl",
     "disabled": "systemctl is-enabled slo-follow slo-seal.timer | xargs",
-    "office": f"sudo systemctl start slo_office; sleep 2; {TICK}; sudo cp {OFFICE} /root/saved",
+    "office": f"sudo systemctl start slo_office; sleep 2; {TICK}; sudo cp {OFFICE} /var/tmp/saved",
     "config": f"printf '{CONFIG}' | sudo tee /etc/slo-follow.toml",
     "follow": f"{TICK}; sudo systemctl start slo-follow; sleep 8; {STATE}",
     "more": f"{TICK}; {TICK}; sleep 5; {STATE}",
@@ -31,7 +31,7 @@ COMMANDS = {
     "seal": "sudo systemctl start slo-seal; sudo cat /var/lib/slo-seal/seals",
     "timer": "sudo systemctl start slo-seal.timer; systemctl is-active slo-seal.timer",
     "restore": "sudo systemctl stop slo_office; sudo systemctl reset-failed slo-follow;"
-    f" sudo cp /root/saved {OFFICE}; sudo systemctl start slo_office; sleep 6; {UNIT}",
+    f" sudo cp /var/tmp/saved {OFFICE}; sudo systemctl start slo_office; sleep 6; {UNIT}",
     "stays": f"sleep 12; {UNIT}; {STATE}",
     "unsealed": "sudo systemctl start slo-seal; systemctl is-failed slo-seal",
     "log": "sudo journalctl --no-pager --unit=slo-follow --unit=slo-seal",

@@ -11,6 +11,8 @@ import time
 import unittest
 from pathlib import Path
 
+from support import SHOP, TOOLS, TOP, program, run_tool, running_office
+
 from past_support import (
     define,
     exclude,
@@ -24,7 +26,6 @@ from past_support import (
     upgrade,
     zone,
 )
-from support import SHOP, TOOLS, TOP, program, run_tool, running_office
 
 ORIGIN = 29_000_000
 

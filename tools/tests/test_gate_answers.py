@@ -13,13 +13,13 @@ from collections.abc import Callable, Sequence
 from typing import Optional
 from unittest import mock
 
-from hostile import Cutting, Replaying, spelled
 from support import SHOP, OfficeServer, run_tool, running_office
-from test_gate import slo
 
+from hostile import Cutting, Replaying, spelled
 from slo_tools import questions
 from slo_tools.gate import command
 from slo_tools.office import Office, Pauses
+from test_gate import slo
 
 HOT = """---
 apiVersion: openslo/v1

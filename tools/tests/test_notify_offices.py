@@ -11,10 +11,10 @@ from functools import partial
 from pathlib import Path
 from unittest import mock
 
-from notify_offices import Dribbler, Mutator
 from notify_support import DOCUMENTS, Desk, HeldClock, Hook, Manager, MovedClock, timed_office
 from support import TOP, OfficeServer, free_port, run_tool, until
 
+from notify_offices import Dribbler, Mutator
 from slo_tools.notify import command
 from slo_tools.notify.clock_trust import ClockTrust
 from slo_tools.notify.config import read_config

@@ -11,6 +11,7 @@ from typing import Any
 from unittest import mock
 
 import yaml
+
 from notify_support import Desk, HeldClock, Hook, timed_office
 from support import SHOP, OfficeServer
 

@@ -16,9 +16,10 @@ from typing import Any
 from urllib.parse import parse_qs, urlsplit
 
 from notify_support import Hook
-from page_incident import LINK, OUTAGE, WINDOW, checkout_counts, documents, fill, fresh, many
 from page_support import DAY, OWNER, RUNBOOK, Browser, Front, all_needed, pictures, write_overview
 from support import TOOLS, OfficeServer, free_port
+
+from page_incident import LINK, OUTAGE, WINDOW, checkout_counts, documents, fill, fresh, many
 from test_page import LAID_OUT
 
 DRAWN_WITHIN = 1.5

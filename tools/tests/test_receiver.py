@@ -11,10 +11,10 @@ from datetime import datetime
 from pathlib import Path
 from typing import Any, Optional
 
-from hostile import Hostile, chunked, hostile, says, spelled
 from notify_support import Desk, Manager
 from support import free_port, until
 
+from hostile import Hostile, chunked, hostile, says, spelled
 from slo_tools.notify.config import ReceiverConfig, read_config
 from slo_tools.notify.receiver import Alertmanager, NotTaken, Receiver, Sending, Webhook
 from slo_tools.notify.state import OpenAlert

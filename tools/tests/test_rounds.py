@@ -15,13 +15,7 @@ from typing import Any, Optional, cast
 from unittest import mock
 
 from engines import data_source, sli
-from simulated import (
-    HeldClock,
-    Sample,
-    SimulatedOffice,
-    SimulatedPrometheus,
-    as_an_office_writes,
-)
+from simulated import HeldClock, Sample, SimulatedOffice, SimulatedPrometheus, as_an_office_writes
 
 from slo_tools.answers import Batch, KeptRow, SampleRow
 from slo_tools.feed.cells import Amount, Cell

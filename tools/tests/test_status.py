@@ -14,9 +14,10 @@ import time
 import unittest
 from collections.abc import Callable, Mapping
 
+from support import SHOP, TOOLS, OfficeServer, free_port, run_tool, running_office
+
 from hostile import Cutting
 from notify_offices import Mutator
-from support import SHOP, TOOLS, OfficeServer, free_port, run_tool, running_office
 from test_gate import slo
 from test_gate_answers import HOT
 

@@ -14,20 +14,9 @@ from fractions import Fraction
 from pathlib import Path
 from typing import Any, NamedTuple, Optional
 
-from past_support import (
-    define,
-    exclude,
-    followed,
-    lift,
-    remove,
-    samples,
-    take,
-    tick,
-    upgrade,
-    zone,
-)
 from support import SHOP, message, pipe, program, run_tool, running_office
 
+from past_support import define, exclude, followed, lift, remove, samples, take, tick, upgrade, zone
 from slo_tools.past.entries import Past, past_of_journal, past_of_office
 from slo_tools.past.scratch import Scratch
 from slo_tools.trial.as_it_came import notices_of, retold

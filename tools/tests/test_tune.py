@@ -10,8 +10,9 @@ from itertools import product
 from pathlib import Path
 from typing import Optional
 
-from past_support import define, followed, samples
 from support import SHOP, message, pipe, run_tool
+
+from past_support import define, followed, samples
 
 ORIGIN = 29_000_040
 MINUTES = 1500

@@ -13,10 +13,10 @@ from collections.abc import Callable
 from pathlib import Path
 from typing import Any
 
-from hostile import Cutting, Doing, chunked, hostile, says, spelled
 from page_support import HOST, Front
 from support import SHOP, OfficeServer, needed, running_office
 
+from hostile import Cutting, Doing, chunked, hostile, says, spelled
 from slo_tools import questions
 from slo_tools.office import Office, Pauses
 from slo_tools.refusals import Foreign, NoAnswer, NotFound, OfficeError, Refusal

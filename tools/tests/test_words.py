@@ -16,9 +16,9 @@ from slo_tools.clock import date_of, minute_of_date
 from slo_tools.feed.cells import Amount, Cell, amounts_of, source_name, stretch_minute
 from slo_tools.feed.config import Config, read_config
 from slo_tools.feed.engine import QueryFault
+from slo_tools.feed.numbers import NoNumber, number_of, shown, whole
 from slo_tools.feed.objects import data_source as source_of
 from slo_tools.feed.objects import query_faults
-from slo_tools.feed.numbers import NoNumber, number_of, shown, whole
 from slo_tools.feed.prometheus import minute_of_sample
 from slo_tools.feed.promql import fault_of, selectors
 from slo_tools.objects import Document, read_document

@@ -6,11 +6,11 @@ from collections.abc import Mapping
 from dataclasses import dataclass, field
 from typing import Any, Optional
 
+from slo_tools.answers import ObjectName
 from slo_tools.feed.config import Config, IndicatorConfig
 from slo_tools.feed.engine import Form, Indicator
 from slo_tools.feed.promql import fault_of
 from slo_tools.objects import Document, map_of, object_of
-from slo_tools.answers import ObjectName
 from slo_tools.office import Office
 from slo_tools.refusals import Foreign, NotFound
 

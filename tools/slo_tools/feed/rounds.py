@@ -16,9 +16,9 @@ from slo_tools.feed.config import Config
 from slo_tools.feed.dues import Due, due, first_again, nothing_of, slices
 from slo_tools.feed.engine import Answer, Engine, EngineError, Indicator
 from slo_tools.feed.history import TakenBack, keep_witness, look_at_history, what_is_left
-from slo_tools.feed.objects import Catalog, DataSource, read_catalog
 from slo_tools.feed.holes import Holes
 from slo_tools.feed.numbers import shown
+from slo_tools.feed.objects import Catalog, DataSource, read_catalog
 from slo_tools.feed.progress import Progress
 from slo_tools.feed.quiet import quiet_rows
 from slo_tools.feed.revisions import pending, without_old

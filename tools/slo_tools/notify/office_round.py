@@ -19,11 +19,18 @@ from slo_tools.notify.arrivals import Arrivals
 from slo_tools.notify.budget_metrics import lookbacks, samples_of
 from slo_tools.notify.clock_trust import ClockTrust, office_fault
 from slo_tools.notify.config import Config, OfficeConfig
-from slo_tools.notify.deciding import NO_DATA, QUIET, Binding, Decisions, Present
-from slo_tools.notify.deciding import binding_of, decide
+from slo_tools.notify.deciding import (
+    NO_DATA,
+    QUIET,
+    Binding,
+    Decisions,
+    Present,
+    binding_of,
+    decide,
+)
 from slo_tools.notify.metrics import Metrics
-from slo_tools.notify.own_alerts import AWAY, CLOCK, OwnFault
 from slo_tools.notify.overview import office_entry
+from slo_tools.notify.own_alerts import AWAY, CLOCK, OwnFault
 from slo_tools.notify.receiver import NotTaken, Receiver, Sending
 from slo_tools.notify.staleness import next_stops
 from slo_tools.notify.state import Mark, OfficeState, OpenAlert, StateFile
