@@ -52,7 +52,7 @@ class FollowServicesTest(unittest.TestCase):
         log = said["log"].text
         self.assertEqual(said["disabled"].text, "disabled disabled\n")
         # It follows, by a user of its own, and comes back when it is killed.
-        for name, entries in (("follow", 2), ("more", 4)):
+        for name, entries in (("follow", 3), ("more", 5)):
             text = said[name].text
             self.assertIn('{"all_came"', text, log)
             told = json.loads(text[text.index('{"all_came"') :])
@@ -62,7 +62,7 @@ class FollowServicesTest(unittest.TestCase):
         self.assertNotIn("root", said["users"].text)
         self.assertEqual(said["kill"].text, "1 0 active\n", log)
         # A seal is made; another history has status 9, and isn't started again.
-        self.assertIn(" entries 4 bytes ", said["seal"].text, log)
+        self.assertIn(" entries 5 bytes ", said["seal"].text, log)
         self.assertEqual(said["timer"].text, "active\n")
         self.assertEqual(said["restore"].text, "0 9 failed\n", log)
         self.assertTrue(said["stays"].text.startswith("0 9 failed\n"), log)
@@ -72,7 +72,7 @@ class FollowServicesTest(unittest.TestCase):
         self.assertIn("not sealed: the seal of line 1, of ", log)
         # A new copy is begun as the page says, and outlives the package.
         self.assertTrue(said["renewed"].text.startswith("0 0 active\n"), log)
-        self.assertIn('"entries": 1', said["renewed"].text)
+        self.assertIn('"entries": 2', said["renewed"].text)
         self.assertEqual(said["purge"].text.count("/office.journal"), 1)
         for name in ("office.journal", "before.journal", "seals"):
             self.assertIn(name, said["purge"].text)
